@@ -1,0 +1,29 @@
+// The interface of all penalties: what a moment costs, by the laws that every penalty keeps.
+ghost use mathlib.Core.Path.{_≡_};
+ghost use Prim.Native.Nat.{ℕ, _≤_};
+ghost use Rattle.penalty.specs.Cost.{Cost, Capped, Outside, Valley};
+
+/// The forbidden cost, 2^40 - 1; no cost is larger.
+pub const TOP: u64 = 1_099_511_627_775;
+
+/// Gives a cost to a channel's count after a slot. Asking changes nothing and never refuses.
+pub trait Penalty {
+    ghost cost: { Self → Cost };
+
+    ghost depth: { Self → ℕ };
+
+    law capped: { (p : Self) → Capped (cost p) };
+
+    law outside: { (p : Self) → Outside (cost p) };
+
+    law valley: { (p : Self) → Valley (cost p) };
+
+    /// What it costs that `channel`, with `readings` in a round of `slots` slots, stands `count`
+    /// times in the first `slot` slots.
+    fn cost(&self, slots: u16, channel: u8, readings: u16, count: u16, slot: u16) -> u64
+        ensures { λ r. ⌜ r ≡ cost (now (self .entry)) slots channel readings count slot ⌝ };
+
+    /// How many layers lie over the bottom, and 255 from there on.
+    fn depth(&self) -> u8
+        ensures { λ r. ⌜ r ≡ depth (now (self .entry)) ⌝ };
+}

@@ -1,0 +1,10 @@
+use borrow.Author.Needs.{needs}
+use native.Mathlib.Omega.{arith}
+use mathlib.Core.Path.{_≡_, sym}
+use Prim.Native.Nat.{ℕ, _≤_}
+use lib.ListN.{length}
+use Rattle.std.proofs.shelf.Lists.{getD-past}
+use Rattle.round.proofs.readings.Readings.of.Needs as need
+
+pub returns-then-channel-gt63 : need.returns-then-channel-gt63
+returns-then-channel-gt63 c = sym (getD-past (c .args .self .now .«by_channel») (c .args .channel) 0 (omega arith))

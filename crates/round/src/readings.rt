@@ -1,0 +1,79 @@
+// The table of readings by channel number.
+ghost use mathlib.Core.Path.{_≡_};
+ghost use mathlib.Core.List.{List};
+ghost use Prim.Native.Nat.{ℕ, _<_, _≤_};
+ghost use lib.ListN.{length, getD};
+ghost use Rattle.std.specs.declared.result.Result.the-variants.{Ok, Err};
+ghost use Rattle.std.specs.shelf.Lists.{sum};
+ghost use Rattle.round.specs.Lists.{readings};
+ghost use Rattle.round.specs.Refusals.{Refused};
+use crate::refusal::Refusal;
+
+/// The readings of each channel number in a round, 0 where no channel is.
+#[derive(Clone, Copy)]
+pub struct Readings {
+    by_channel: [u16; 64],
+    total: u16,
+    ghost long: { length «by_channel» ≡ 64 },
+    ghost summed: { total ≡ sum «by_channel» },
+    ghost few: { total ≤ 4096 },
+}
+
+impl Readings {
+    /// The table that a row gives.
+    pub fn from_row(row: &[u16]) -> Result<Readings, Refusal>
+        ensures { λ r. ⌜ elim r [
+          | Ok table ↦ table .«by_channel» ≡ now (row .entry)
+          | Err e ↦ ((l : List ℕ) → Refused (now (row .entry)) l e)
+        ] ⌝ }
+    {
+        if row.len() != 64 {
+            return Err(Refusal::RowLength);
+        }
+        let total = sum_of(row)?;
+        if total > 4096 {
+            return Err(Refusal::TotalAboveLimit);
+        }
+        let mut by_channel = [0; 64];
+        by_channel.copy_from_slice(row);
+        Ok(Readings {
+            by_channel,
+            total: total as u16,
+        })
+    }
+
+    /// D, which is also the number of slots.
+    pub fn total(&self) -> u16
+        ensures { λ r. ⌜ r ≡ sum (now (self .entry) .«by_channel») ⌝ }
+    {
+        self.total
+    }
+
+    /// The readings of a channel, 0 where it is not in the table.
+    pub fn of(&self, channel: u8) -> u16
+        ensures { λ r. ⌜ r ≡ readings (now (self .entry) .«by_channel») channel ⌝ }
+    {
+        if channel > 63 {
+            return 0;
+        }
+        self.by_channel[usize::from(channel)]
+    }
+}
+
+// The sum of a row, unless a number of it is above 4,096.
+fn sum_of(row: &[u16]) -> Result<u32, Refusal>
+    requires { ⌜ length (now row) ≡ 64 ⌝ }
+    ensures { λ r. ⌜ elim r [
+      | Ok n ↦ (n ≡ sum (now (row .entry))) × ((c : ℕ) → readings (now (row .entry)) c ≤ 4096)
+      | Err e ↦ ((l : List ℕ) → Refused (now (row .entry)) l e)
+    ] ⌝ }
+{
+    let mut total = 0;
+    for n in row {
+        if *n > 4096 {
+            return Err(Refusal::ReadingsAboveLimit);
+        }
+        total += u32::from(*n);
+    }
+    Ok(total)
+}
