@@ -2,8 +2,8 @@
 ghost use mathlib.Core.Path.{_≡_};
 ghost use Rattle.penalty.specs.Cost.{inside};
 
-/// Whether the arguments of a cost lie in the domain of all penalties.
-pub fn in_domain(slots: u16, channel: u8, readings: u16, count: u16, slot: u16) -> bool
+// Whether the arguments of a cost lie in the domain of all penalties.
+pub(crate) fn in_domain(slots: u16, channel: u8, readings: u16, count: u16, slot: u16) -> bool
     ensures { λ r. ⌜ r ≡ inside slots channel readings count slot ⌝ }
 {
     (1 <= slots && slots <= 4096)

@@ -1,15 +1,27 @@
 -- Which refusal is told: a fault that is there, once every check before it has passed.
-use mathlib.Core.Path.{_≡_}
+use mathlib.Core.Path.{_≡_, refl, sym, _∙_}
 use mathlib.Core.List.{List}
-use mathlib.Core.Logic.{⊎-elim}
-use Prim.Native.Nat.{ℕ, _<_, _≤_}
+use mathlib.Core.Logic.{_≢_, ⊎-elim}
+use Prim.Native.Nat.{ℕ, _+_, _<_, _≤_}
 use native.Mathlib.Omega.{arith}
 use lib.ListN.{length, getD}
 use Rattle.std.specs.shelf.Lists.{sum}
-use Rattle.round.specs.Lists.{readings, Channel}
+use Rattle.std.proofs.shelf.Lists.{getD-past}
+use Rattle.std.proofs.shelf.Sums.{getD-le-sumBy}
+use Rattle.std.proofs.shelf.Tests.{cases-eq, cases-lt}
+use Rattle.round.specs.Lists.{readings, Channel, times}
+use Rattle.round.proofs.Counts.{absent}
 use Rattle.round.specs.Refusals.{Fault, Sooner, Refused, number, value, turn}
 use Rattle.round.specs.declared.refusal.Refusal.{Refusal}
 use Rattle.round.specs.declared.refusal.Refusal.the-variants.{RowLength, ReadingsAboveLimit, TotalAboveLimit, NoChannel, ListLength, NotAChannel, WrongCount}
+
+-- no channel has more readings than the table
+pub readings-le : (t : List ℕ) (c : ℕ) {n : ℕ} → sum t ≤ n → readings t c ≤ n
+readings-le t c h =
+    ⊎-elim
+    (λ below. let le = getD-le-sumBy (λ x. x) t c 0 below in omega arith)
+    (λ past. rw (getD-past t c 0 past) (omega arith))
+    (cases-lt c (length t))
 
 -- each check before turn n, but the last kind of all, has passed
 pub record Passed (t l : List ℕ) (n : ℕ) : Type 0 where
@@ -30,9 +42,63 @@ no-fault t l n h p ListLength less f = f (p .full less)
 no-fault t l n h p (NotAChannel slot) less f = let q = p .known less (f .0) (f .2) in omega (arith, f .3)
 no-fault t l n h p (WrongCount channel) less f = omega arith
 
-pub refused : (t l : List ℕ) (e : Refusal) → turn (number e) ≤ 16 → Passed t l (turn (number e)) → Fault t l e →
+refused : (t l : List ℕ) (e : Refusal) → turn (number e) ≤ 16 → Passed t l (turn (number e)) → Fault t l e →
     ((s : Refusal) → number s ≡ number e → value s < value e → Fault t l s → ⊥) → Refused t l e
 refused t l e h p f least = record {
   fault = f;
   first = λ s so g. ⊎-elim (λ less. no-fault t l (turn (number e)) h p s less g) (λ same. least s (same .0) (same .1) g) so;
 }
+
+module _ (t l : List ℕ) (long : length t ≡ 64) (few : sum t ≤ 4096) where
+  -- a table has passed the checks of a row
+  passed : (n : ℕ) → (6 < n → 0 < sum t) → (14 < n → length l ≡ sum t) → (15 < n → (i : ℕ) → i < length l → Channel t (getD l i 0)) → Passed t l n
+  passed n some full known = record {
+    long = λ _. long;
+    small = λ _ c. readings-le t c few;
+    few = λ _. few;
+    some = some;
+    full = full;
+    known = known;
+  }
+
+  pub no-channel : sum t ≡ 0 → Refused t l NoChannel
+  no-channel none =
+      refused t l NoChannel (omega arith) (passed 6 (λ h. absurd (omega arith)) (λ h. absurd (omega arith)) (λ h. absurd (omega arith))) none
+      (λ s _ less _. omega arith)
+
+  module _ (some : 0 < sum t) where
+    pub wrong-length : length l ≢ sum t → Refused t l ListLength
+    wrong-length other =
+        refused t l ListLength (omega arith) (passed 14 (λ _. some) (λ h. absurd (omega arith)) (λ h. absurd (omega arith))) other
+        (λ s _ less _. omega arith)
+
+    module _ (full : length l ≡ sum t) where
+      pub not-a-channel : (i : ℕ) → i < length l → readings t (getD l i 0) ≡ 0 → ((j : ℕ) → j < i → Channel t (getD l j 0)) → Refused t l (NotAChannel (i + 1))
+      not-a-channel i here none before =
+          refused t l (NotAChannel (i + 1)) (omega arith) (passed 15 (λ _. some) (λ _. full) (λ h. absurd (omega arith))) (i, refl, here, none) least
+        where
+        least : (s : Refusal) → number s ≡ 15 → value s < i + 1 → Fault t l s → ⊥
+        least RowLength same less f = omega arith
+        least ReadingsAboveLimit same less f = omega arith
+        least TotalAboveLimit same less f = omega arith
+        least NoChannel same less f = omega arith
+        least ListLength same less f = omega arith
+        least (NotAChannel slot) same less f = let q = before (f .0) (omega (arith, f .1)) in omega (arith, f .3)
+        least (WrongCount channel) same less f = omega arith
+
+      pub wrong-count : ((i : ℕ) → i < length l → Channel t (getD l i 0)) → (c : ℕ) → times c l ≢ readings t c →
+          ((b : ℕ) → b < c → times b l ≡ readings t b) → Refused t l (WrongCount c)
+      wrong-count known c other before =
+          refused t l (WrongCount c) (omega arith) (passed 16 (λ _. some) (λ _. full) (λ _. known)) (here, other) least
+        where
+        here : Channel t c
+        here = ⊎-elim (λ none. absurd (other (absent t l known c none ∙ sym none))) (λ not. omega arith) (cases-eq (readings t c) 0)
+
+        least : (s : Refusal) → number s ≡ 16 → value s < c → Fault t l s → ⊥
+        least RowLength same less f = omega arith
+        least ReadingsAboveLimit same less f = omega arith
+        least TotalAboveLimit same less f = omega arith
+        least NoChannel same less f = omega arith
+        least ListLength same less f = omega arith
+        least (NotAChannel slot) same less f = omega arith
+        least (WrongCount channel) same less f = f .1 (before channel less)

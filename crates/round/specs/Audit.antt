@@ -1,7 +1,9 @@
 -- What an audit answers: the largest cost and the first moment that has it, or a refusal.
 use mathlib.Core.Path.{_≡_}
+use mathlib.Core.Bool.{cond}
 use mathlib.Core.List.{List}
 use Prim.Native.Nat.{ℕ, _<_, _≤_}
+use lib.Dec.{ltb}
 use Rattle.std.specs.declared.option.Option.{Option}
 use Rattle.std.specs.declared.option.Option.the-variants.{Some, None}
 use Rattle.std.specs.declared.result.Result.{Result}
@@ -32,3 +34,8 @@ Found g M (Some r) = FirstLargest g M (r .cost) (r .slot) (r .channel)
 -- the moments before (k, c)
 abbrev pub Past : List ℕ → ℕ → ℕ → ℕ → ℕ → Type 0
 Past t k c j b = Moment t j b × Before j b k c
+
+-- the larger of what was found before and the next; of equal costs the earlier stays
+abbrev pub larger-of : Option Largest → Largest → Largest
+larger-of None next = next
+larger-of (Some r) next = cond (ltb (r .cost) (next .cost)) next r

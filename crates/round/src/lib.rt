@@ -1,10 +1,11 @@
 // Readings, scan lists and their audit.
-mod audit;
+mod complete;
 mod largest;
 mod readings;
 mod refusal;
+mod walk;
 
-
+pub use walk::audit;
 pub use largest::Largest;
 pub use readings::Readings;
 pub use refusal::Refusal;

@@ -1,0 +1,42 @@
+use borrow.Author.Count.{below-more}
+use native.Mathlib.Omega.{arith}
+use mathlib.Core.Path.{_≡_, refl, ap, _∙_}
+use lib.ListN.{length, getD, take}
+use Rattle.std.proofs.shelf.Lists.{take-all}
+use Rattle.round.specs.Lists.{times}
+use Rattle.round.proofs.Counts.{counted-none, count-le, channel-below}
+use Rattle.round.proofs.Faults.{not-a-channel}
+use Rattle.round.proofs.readings.Readings.tally.Needs as need
+
+pub loop-i-holds : need.loop-i-holds
+loop-i-holds c = (refl, counted-none 64 (c .args .list .now), λ j h. absurd (omega arith))
+
+pub returns-then-of-eq0 : need.returns-then-of-eq0
+returns-then-of-eq0 c =
+    let table = c .args .self .now in
+    not-a-channel (table .«by_channel») (c .args .list .now) (omega arith) (omega arith) (c .pre .0) (c .pre .1)
+    (c .loop-i .i) (c .loop-i-test .taken) (omega arith) (c .loop-i .inv .2)
+
+pub count-slot-requires : need.count-slot-requires
+count-slot-requires c κs =
+    let channel = getD (c .args .list .now) (c .loop-i .i) 0 in
+    let below = channel-below (c .args .self .now .«by_channel») channel (omega arith) in
+    let old = c .loop-i .inv .1 channel in
+    let few = count-le (c .args .list .now) channel (c .loop-i .i) in
+    (omega arith, omega arith)
+
+pub loop-i-again : need.loop-i-again
+loop-i-again c = (
+  omega arith,
+  c .count-slot .ensures (c .args .list .now) (c .loop-i .i) (c .loop-i-test .taken) refl (c .loop-i .inv .1),
+  below-more _ _ (c .loop-i .inv .2) (omega arith),
+)
+
+pub returns : need.returns
+returns c =
+    let list = c .args .list .now in
+    let all : take (c .loop-i .i) list ≡ list = take-all (c .loop-i .i) list (c .loop-i-test .left) in (
+      c .loop-i .inv .0,
+      λ b. c .loop-i .inv .1 b ∙ ap (times b) all,
+      λ j h. c .loop-i .inv .2 j (omega arith),
+    )

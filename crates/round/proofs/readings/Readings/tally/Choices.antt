@@ -1,0 +1,11 @@
+use mathlib.Core.Path.{_≡_}
+use Prim.Native.Nat.{ℕ, _<_}
+use lib.ListN.{length, getD}
+use Rattle.round.specs.Lists.{Channel, Counted}
+use Rattle.round.proofs.readings.Readings.tally.Given as given
+
+abbrev pub Inv-loop-i : given.InvT-loop-i
+Inv-loop-i l =
+    (length (l .counts) ≡ 64)
+    × Counted (l .counts) (l .list) (l .i)
+    × ((j : ℕ) → j < l .i → Channel (l .self .«by_channel») (getD (l .list) j 0))

@@ -1,0 +1,28 @@
+use native.Mathlib.Omega.{arith}
+use mathlib.Core.Path.{_≡_}
+use Rattle.round.specs.Lists.{Moment, cost-at}
+use Rattle.round.proofs.Walks.{found-skip, found-more, past-slot}
+use Rattle.round.proofs.walk.scan.Needs as need
+use Rattle.round.proofs.walk.scan.Needs.{then-of-channel-gt0, else-of-channel-gt0}
+
+pub loop-channel-again : need.loop-channel-again
+loop-channel-again g c list inside agree before =
+    let f = g .P·Penalty .cost (c .args .penalty .now) in
+    let t = c .args .readings .now .«by_channel» in
+    let slot = c .args .slot in
+    let channel = c .loop-channel .channel in
+    let old = c .loop-channel .inv list inside agree before in
+    elim (c .if-of-channel-gt0 .came) [
+      | then-of-channel-gt0 w ↦
+        let is : w .cost-cost .result ≡ cost-at f t list slot channel = let a = agree channel in cc in
+        rw (w .found-is, w .larger .ensures)
+        (found-more (cost-at f t list) (Moment t) slot channel (inside, omega arith) (w .cost-cost .result) is (c .loop-channel .found) old)
+      | else-of-channel-gt0 w ↦
+        rw (w .found-is) (found-skip (cost-at f t list) (Moment t) slot channel (λ m. omega (arith, m .1)) (c .loop-channel .found) old)
+    ]
+
+pub returns : need.returns
+returns g c list inside agree before =
+    let end : c .loop-channel .channel ≡ 64 = omega arith in
+    past-slot _ (c .args .readings .now .«by_channel») (omega arith) (c .args .slot) (c .loop-channel .found)
+    (rw end at (c .loop-channel .inv list inside agree before))

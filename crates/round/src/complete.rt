@@ -1,0 +1,77 @@
+// The check that a list is complete: every slot has a channel of the table, as often as the table says.
+ghost use mathlib.Core.List.{List};
+ghost use mathlib.Core.Path.{_≡_};
+ghost use Prim.Native.Nat.{ℕ, _+_, _<_, _≤_};
+ghost use lib.ListN.{length, getD};
+ghost use mathlib.Core.Logic.{_≢_};
+ghost use Rattle.std.specs.declared.option.Option.the-variants.{Some, None};
+ghost use Rattle.std.specs.declared.result.Result.the-variants.{Ok, Err};
+ghost use Rattle.std.specs.shelf.Lists.{sum};
+ghost use Rattle.round.specs.Lists.{Sound, Complete, Channel, Counted, readings, times};
+ghost use Rattle.round.specs.Refusals.{Refused};
+use crate::readings::Readings;
+use crate::refusal::Refusal;
+
+impl Readings {
+    /// Refuses a list that is not complete.
+    pub fn check(&self, list: &[u8]) -> Result<(), Refusal>
+        ensures { λ r. ⌜ elim r [
+          | Ok _ ↦ Sound (now (self .entry) .«by_channel») × Complete (now (self .entry) .«by_channel») (now (list .entry))
+          | Err e ↦ Refused (now (self .entry) .«by_channel») (now (list .entry)) e
+        ] ⌝ }
+    {
+        if self.total() == 0 {
+            return Err(Refusal::NoChannel);
+        }
+        if list.len() != usize::from(self.total()) {
+            return Err(Refusal::ListLength);
+        }
+        let counts = self.tally(list)?;
+        match self.first_difference(&counts) {
+            Some(channel) => Err(Refusal::WrongCount { channel }),
+            None => Ok(()),
+        }
+    }
+
+    // How often each channel stands in a list of the right length.
+    fn tally(&self, list: &[u8]) -> Result<[u16; 64], Refusal>
+        requires { ⌜ (0 < sum (now self .«by_channel»)) × (length (now list) ≡ sum (now self .«by_channel»)) ⌝ }
+        ensures { λ r. ⌜ elim r [
+          | Ok counts ↦ (length counts ≡ 64) × ((c : ℕ) → getD counts c 0 ≡ times c (now (list .entry))) × ((i : ℕ) → i < length (now (list .entry)) → Channel (now (self .entry) .«by_channel») (getD (now (list .entry)) i 0))
+          | Err e ↦ Refused (now (self .entry) .«by_channel») (now (list .entry)) e
+        ] ⌝ }
+    {
+        let mut counts = [0; 64];
+        for (i, channel) in list.iter().enumerate() {
+            if self.of(*channel) == 0 {
+                let slot = (i + 1) as u16;
+                return Err(Refusal::NotAChannel { slot });
+            }
+            count_slot(&mut counts, *channel);
+        }
+        Ok(counts)
+    }
+
+    // The smallest channel whose count is not the table's.
+    fn first_difference(&self, counts: &[u16; 64]) -> Option<u8>
+        ensures { λ r. ⌜ elim r [
+          | None ↦ ((c : ℕ) → getD (now (counts .entry)) c 0 ≡ readings (now (self .entry) .«by_channel») c)
+          | Some c ↦ (getD (now (counts .entry)) c 0 ≢ readings (now (self .entry) .«by_channel») c) × ((b : ℕ) → b < c → getD (now (counts .entry)) b 0 ≡ readings (now (self .entry) .«by_channel») b)
+        ] ⌝ }
+    {
+        for channel in 0..64u8 {
+            if counts[usize::from(channel)] != self.of(channel) {
+                return Some(channel);
+            }
+        }
+        None
+    }
+}
+
+// One slot more, in which `channel` stands.
+pub(crate) fn count_slot(counts: &mut [u16; 64], channel: u8)
+    requires { ⌜ (channel < 64) × (getD (now counts) channel 0 < 4096) ⌝ }
+    ensures { λ _. ⌜ ((l : List ℕ) (k : ℕ) → k < length l → getD l k 0 ≡ channel → Counted (now (counts .entry)) l k → Counted (now (counts .exit)) l (k + 1)) ⌝ }
+{
+    counts[usize::from(channel)] += 1;
+}

@@ -1,0 +1,74 @@
+// The audit of a list: its largest cost, and the first moment that has it.
+ghost use mathlib.Core.List.{List};
+ghost use mathlib.Core.Path.{_≡_};
+ghost use Prim.Native.Nat.{ℕ, _+_, _≤_};
+ghost use Rattle.std.specs.declared.option.Option.the-variants.{Some};
+ghost use Rattle.std.specs.shelf.Lists.{sum};
+ghost use Rattle.round.specs.Audit.{Audited, FirstLargest, Found, Past, larger-of};
+ghost use Rattle.round.specs.Lists.{Sound, Complete, Moment, Counted, cost-at};
+use crate::complete::count_slot;
+use crate::largest::Largest;
+use crate::readings::Readings;
+use crate::refusal::Refusal;
+use penalty::Penalty;
+
+/// The largest cost of the list for the channels of the row, and the first moment that has it:
+/// the smallest slot, then the smallest channel.
+pub fn audit<P: Penalty>(penalty: &P, row: &[u16], list: &[u8]) -> Result<Largest, Refusal>
+    ensures { λ r. ⌜ Audited (cost (now (penalty .entry))) (now (row .entry)) (now (list .entry)) r ⌝ }
+{
+    let readings = Readings::from_row(row)?;
+    readings.check(list)?;
+    Ok(largest_cost(penalty, &readings, list))
+}
+
+// Counts the channels slot by slot, and takes the costs after each slot.
+fn largest_cost<P: Penalty>(penalty: &P, readings: &Readings, list: &[u8]) -> Largest
+    requires { ⌜ Sound (now readings .«by_channel») × Complete (now readings .«by_channel») (now list) ⌝ }
+    ensures { λ r. ⌜ FirstLargest (cost-at (cost (now (penalty .entry))) (now (readings .entry) .«by_channel») (now (list .entry))) (Moment (now (readings .entry) .«by_channel»)) (r .cost) (r .slot) (r .channel) ⌝ }
+{
+    let mut counts = [0; 64];
+    let mut found = scan(penalty, readings, &counts, 0, None);
+    for (i, channel) in list.iter().enumerate() {
+        count_slot(&mut counts, *channel);
+        found = scan(penalty, readings, &counts, (i + 1) as u16, found);
+    }
+    found.unwrap()
+}
+
+// Takes the cost of each channel after one slot into account, in the order of the channels.
+fn scan<P: Penalty>(
+    penalty: &P,
+    readings: &Readings,
+    counts: &[u16; 64],
+    slot: u16,
+    before: Option<Largest>,
+) -> Option<Largest>
+    ensures { λ r. ⌜ ((l : List ℕ) → slot ≤ sum (now (readings .entry) .«by_channel») →
+      Counted (now (counts .entry)) l slot →
+      Found (cost-at (cost (now (penalty .entry))) (now (readings .entry) .«by_channel») l) (Past (now (readings .entry) .«by_channel») slot 0) before →
+      Found (cost-at (cost (now (penalty .entry))) (now (readings .entry) .«by_channel») l) (Past (now (readings .entry) .«by_channel») (slot + 1) 0) r) ⌝ }
+{
+    let slots = readings.total();
+    let mut found = before;
+    for channel in 0..64u8 {
+        let of_channel = readings.of(channel);
+        if of_channel > 0 {
+            let count = counts[usize::from(channel)];
+            let cost = penalty.cost(slots, channel, of_channel, count, slot);
+            let next = Largest { cost, slot, channel };
+            found = Some(larger(found, next));
+        }
+    }
+    found
+}
+
+// The larger of what was found before and the next; of equal costs the earlier stays.
+fn larger(before: Option<Largest>, next: Largest) -> Largest
+    ensures { λ r. ⌜ r ≡ larger-of before next ⌝ }
+{
+    match before {
+        Some(found) if found.cost >= next.cost => found,
+        _ => next,
+    }
+}
