@@ -1,4 +1,6 @@
 // Why a table or a list is refused.
+ghost use mathlib.Core.Path.{_≡_};
+ghost use Rattle.round.specs.Refusals.{number};
 
 /// The first fault of a table or a list, in the order of the checks.
 #[derive(Clone, Copy)]
@@ -17,4 +19,21 @@ pub enum Refusal {
     NotAChannel { slot: u16 },
     /// A channel stands in the list too often or too seldom; the smallest one.
     WrongCount { channel: u8 },
+}
+
+impl Refusal {
+    /// The number that is handed back.
+    pub fn number(self) -> u8
+        ensures { λ r. ⌜ r ≡ number self ⌝ }
+    {
+        match self {
+            Refusal::RowLength => 17,
+            Refusal::ReadingsAboveLimit => 2,
+            Refusal::TotalAboveLimit => 5,
+            Refusal::NoChannel => 6,
+            Refusal::ListLength => 14,
+            Refusal::NotAChannel { .. } => 15,
+            Refusal::WrongCount { .. } => 16,
+        }
+    }
 }

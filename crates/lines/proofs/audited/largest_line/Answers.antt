@@ -1,0 +1,8 @@
+use Rattle.lines.proofs.Puts.{put-then}
+use Rattle.lines.proofs.audited.largest_line.Needs as need
+
+pub returns : need.returns
+returns c =
+    put-then (c .put-field-slot .ensures .written)
+    (put-then (c .put-field-channel .ensures .written)
+    (put-then (c .put-field-end .ensures .written) (c .put .ensures)))

@@ -1,0 +1,6 @@
+// What the programs print: lines in memory that the caller lends.
+mod audited;
+mod put;
+
+pub use audited::LINE;
+pub use audited::audit_line;
