@@ -9,7 +9,7 @@ use Rattle.std.specs.Written.{decimal}
 use Rattle.std.proofs.shelf.Decimals.{decimal-step}
 use Rattle.std.proofs.shelf.Lists.{drop-drop, drop-set-lt, take-more-set}
 use Rattle.std.proofs.shelf.Parts.{take-putMid, drop-putMid}
-use Rattle.lines.specs.Text.{Put}
+use Rattle.lines.specs.Text.{Put, Written}
 
 -- a part that was copied over
 pub put-part : (old text : List ℕ) (at k : ℕ) → k ≡ length text → at + length text ≤ length old → Put old at text (putMid at k old text) (at + length text)
@@ -40,3 +40,12 @@ put-then {old} {mid} {new} {s} {t} {at} {m} {n} p q =
 -- a number of two digits or more has one digit more than its tenth
 pub decimal-longer : (n : ℕ) → 10 ≤ n → n < 2 ^ 64 → length (decimal n) ≡ length (decimal (n / 10)) + 1
 decimal-longer n big fits = ap length (decimal-step n big fits) ∙ length-append (decimal (n / 10)) ((48 + n % 10) ∷ [])
+
+-- what is put at the start is the line
+pub written : {text old new : List ℕ} {n : ℕ} → length new ≡ length old → Put old 0 text new n → n ≤ length old → Written text old new n
+written {text} {old} {new} {n} same p fits = record {
+  long = omega (arith, p .stops);
+  fits = omega arith;
+  line = p .front;
+  rest = p .rest;
+}

@@ -1,8 +1,6 @@
 // The line that the audit prints.
-ghost use mathlib.Core.Path.{_≡_};
 ghost use Prim.Native.Nat.{_≤_};
-ghost use lib.ListN.{take, drop};
-ghost use Rattle.lines.specs.Text.{Put};
+ghost use Rattle.lines.specs.Text.{Put, Written};
 ghost use Rattle.lines.specs.Audited.{audit-text, largest-text, refusal-text, value-text};
 use crate::put::put;
 use crate::put::put_field;
@@ -13,8 +11,8 @@ use round::Refusal;
 pub const LINE: usize = 96;
 
 /// Writes the line of an audit at the start of the memory, and answers its length.
-pub fn audit_line(memory: &mut [u8; 96], answer: Result<Largest, Refusal>) -> usize
-    ensures { λ r. ⌜ (take r (now (memory .exit)) ≡ audit-text answer) × (drop r (now (memory .exit)) ≡ drop r (now (memory .entry))) ⌝ }
+pub fn audit_line(memory: &mut [u8; LINE], answer: Result<Largest, Refusal>) -> usize
+    ensures { λ r. ⌜ Written (audit-text answer) (now (memory .entry)) (now (memory .exit)) r ⌝ }
 {
     match answer {
         Ok(largest) => largest_line(memory, largest),
@@ -22,8 +20,8 @@ pub fn audit_line(memory: &mut [u8; 96], answer: Result<Largest, Refusal>) -> us
     }
 }
 
-fn largest_line(memory: &mut [u8; 96], largest: Largest) -> usize
-    ensures { λ r. ⌜ Put (now (memory .entry)) 0 (largest-text largest) (now (memory .exit)) r ⌝ }
+fn largest_line(memory: &mut [u8; LINE], largest: Largest) -> usize
+    ensures { λ r. ⌜ Written (largest-text largest) (now (memory .entry)) (now (memory .exit)) r ⌝ }
 {
     let slot = put_field(memory, 0, b"LARGEST ", largest.cost);
     let channel = put_field(memory, slot, b" MOMENT ", largest.slot as u64);
@@ -31,8 +29,8 @@ fn largest_line(memory: &mut [u8; 96], largest: Largest) -> usize
     put(memory, end, b"\n")
 }
 
-fn refusal_line(memory: &mut [u8; 96], refusal: Refusal) -> usize
-    ensures { λ r. ⌜ Put (now (memory .entry)) 0 (refusal-text refusal) (now (memory .exit)) r ⌝ }
+fn refusal_line(memory: &mut [u8; LINE], refusal: Refusal) -> usize
+    ensures { λ r. ⌜ Written (refusal-text refusal) (now (memory .entry)) (now (memory .exit)) r ⌝ }
 {
     let value = put_field(memory, 0, b"REFUSED ", refusal.number() as u64);
     let end = put_value(memory, value, refusal);
@@ -40,7 +38,7 @@ fn refusal_line(memory: &mut [u8; 96], refusal: Refusal) -> usize
 }
 
 // Writes the slot or the channel that comes with a refusal.
-fn put_value(memory: &mut [u8; 96], at: usize, refusal: Refusal) -> usize
+fn put_value(memory: &mut [u8; LINE], at: usize, refusal: Refusal) -> usize
     requires { ⌜ at ≤ 60 ⌝ }
     ensures written { λ r. ⌜ Put (now (memory .entry)) at (value-text refusal) (now (memory .exit)) r ⌝ }
     ensures bound { λ r. ⌜ r ≤ 90 ⌝ }

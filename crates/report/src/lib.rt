@@ -1,0 +1,5 @@
+// The audit as a whole: from the bytes of its input to the line that it prints.
+mod input;
+mod whole;
+
+pub use whole::report;
