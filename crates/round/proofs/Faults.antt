@@ -77,28 +77,28 @@ module _ (t l : List ℕ) (long : length t ≡ 64) (few : sum t ≤ 4096) where
       not-a-channel i here none before =
           refused t l (NotAChannel (i + 1)) (omega arith) (passed 15 (λ _. some) (λ _. full) (λ h. absurd (omega arith))) (i, refl, here, none) least
         where
-        least : (s : Refusal) → number s ≡ 15 → value s < i + 1 → Fault t l s → ⊥
-        least RowLength same less f = omega arith
-        least ReadingsAboveLimit same less f = omega arith
-        least TotalAboveLimit same less f = omega arith
-        least NoChannel same less f = omega arith
-        least ListLength same less f = omega arith
-        least (NotAChannel slot) same less f = let q = before (f .0) (omega (arith, f .1)) in omega (arith, f .3)
-        least (WrongCount channel) same less f = omega arith
+          least : (s : Refusal) → number s ≡ 15 → value s < i + 1 → Fault t l s → ⊥
+          least RowLength same less f = omega arith
+          least ReadingsAboveLimit same less f = omega arith
+          least TotalAboveLimit same less f = omega arith
+          least NoChannel same less f = omega arith
+          least ListLength same less f = omega arith
+          least (NotAChannel slot) same less f = let q = before (f .0) (omega (arith, f .1)) in omega (arith, f .3)
+          least (WrongCount channel) same less f = omega arith
 
       pub wrong-count : ((i : ℕ) → i < length l → Channel t (getD l i 0)) → (c : ℕ) → times c l ≢ readings t c →
           ((b : ℕ) → b < c → times b l ≡ readings t b) → Refused t l (WrongCount c)
       wrong-count known c other before =
           refused t l (WrongCount c) (omega arith) (passed 16 (λ _. some) (λ _. full) (λ _. known)) (here, other) least
         where
-        here : Channel t c
-        here = ⊎-elim (λ none. absurd (other (absent t l known c none ∙ sym none))) (λ not. omega arith) (cases-eq (readings t c) 0)
+          here : Channel t c
+          here = ⊎-elim (λ none. absurd (other (absent t l known c none ∙ sym none))) (λ not. omega arith) (cases-eq (readings t c) 0)
 
-        least : (s : Refusal) → number s ≡ 16 → value s < c → Fault t l s → ⊥
-        least RowLength same less f = omega arith
-        least ReadingsAboveLimit same less f = omega arith
-        least TotalAboveLimit same less f = omega arith
-        least NoChannel same less f = omega arith
-        least ListLength same less f = omega arith
-        least (NotAChannel slot) same less f = omega arith
-        least (WrongCount channel) same less f = f .1 (before channel less)
+          least : (s : Refusal) → number s ≡ 16 → value s < c → Fault t l s → ⊥
+          least RowLength same less f = omega arith
+          least ReadingsAboveLimit same less f = omega arith
+          least TotalAboveLimit same less f = omega arith
+          least NoChannel same less f = omega arith
+          least ListLength same less f = omega arith
+          least (NotAChannel slot) same less f = omega arith
+          least (WrongCount channel) same less f = f .1 (before channel less)

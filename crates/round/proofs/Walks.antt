@@ -79,6 +79,10 @@ module _ (g : ℕ → ℕ → ℕ) where
           (λ f. rw f (stays r (ltb-false (r .cost) n f) h))
           (cases-bool (ltb (r .cost) n))
 
+-- the moments before one slot, under another name for it
+pub found-at : (g : ℕ → ℕ → ℕ) (t : List ℕ) (k m : ℕ) (o : Option Largest) → k ≡ m → Found g (Past t k 0) o → Found g (Past t m 0) o
+found-at g t k m o same h = subst (λ (x : ℕ). Found g (Past t x 0) o) same h
+
 -- after the last channel comes the next slot
 pub past-slot : (g : ℕ → ℕ → ℕ) (t : List ℕ) → length t ≡ 64 → (k : ℕ) (o : Option Largest) → Found g (Past t k 64) o → Found g (Past t (k + 1) 0) o
 past-slot g t long k =

@@ -1,13 +1,12 @@
 // The check that a list is complete: every slot has a channel of the table, as often as the table says.
-ghost use mathlib.Core.List.{List};
 ghost use mathlib.Core.Path.{_≡_};
 ghost use Prim.Native.Nat.{ℕ, _+_, _<_, _≤_};
-ghost use lib.ListN.{length, getD};
+ghost use lib.ListN.{length, getD, set};
 ghost use mathlib.Core.Logic.{_≢_};
 ghost use Rattle.std.specs.declared.option.Option.the-variants.{Some, None};
 ghost use Rattle.std.specs.declared.result.Result.the-variants.{Ok, Err};
 ghost use Rattle.std.specs.shelf.Lists.{sum};
-ghost use Rattle.round.specs.Lists.{Sound, Complete, Channel, Counted, readings, times};
+ghost use Rattle.round.specs.Lists.{Sound, Complete, Channel, readings, times};
 ghost use Rattle.round.specs.Refusals.{Refused};
 use crate::readings::Readings;
 use crate::refusal::Refusal;
@@ -44,8 +43,7 @@ impl Readings {
         let mut counts = [0; 64];
         for (i, channel) in list.iter().enumerate() {
             if self.of(*channel) == 0 {
-                let slot = (i + 1) as u16;
-                return Err(Refusal::NotAChannel { slot });
+                return Err(Refusal::NotAChannel { slot: slot_at(i) });
             }
             count_slot(&mut counts, *channel);
         }
@@ -71,7 +69,15 @@ impl Readings {
 // One slot more, in which `channel` stands.
 pub(crate) fn count_slot(counts: &mut [u16; 64], channel: u8)
     requires { ⌜ (channel < 64) × (getD (now counts) channel 0 < 4096) ⌝ }
-    ensures { λ _. ⌜ ((l : List ℕ) (k : ℕ) → k < length l → getD l k 0 ≡ channel → Counted (now (counts .entry)) l k → Counted (now (counts .exit)) l (k + 1)) ⌝ }
+    ensures { λ _. ⌜ now (counts .exit) ≡ set (now (counts .entry)) channel (getD (now (counts .entry)) channel 0 + 1) ⌝ }
 {
     counts[usize::from(channel)] += 1;
+}
+
+// The slot at a place of the list: places are numbered from 0, slots from 1.
+pub(crate) fn slot_at(place: usize) -> u16
+    requires { ⌜ place < 4096 ⌝ }
+    ensures { λ r. ⌜ r ≡ place + 1 ⌝ }
+{
+    (place + 1) as u16
 }

@@ -5,7 +5,7 @@ mod readings;
 mod refusal;
 mod walk;
 
-pub use walk::audit;
 pub use largest::Largest;
 pub use readings::Readings;
 pub use refusal::Refusal;
+pub use walk::audit;

@@ -7,6 +7,7 @@ ghost use Rattle.std.specs.shelf.Lists.{sum};
 ghost use Rattle.round.specs.Audit.{Audited, FirstLargest, Found, Past, larger-of};
 ghost use Rattle.round.specs.Lists.{Sound, Complete, Moment, Counted, cost-at};
 use crate::complete::count_slot;
+use crate::complete::slot_at;
 use crate::largest::Largest;
 use crate::readings::Readings;
 use crate::refusal::Refusal;
@@ -31,7 +32,7 @@ fn largest_cost<P: Penalty>(penalty: &P, readings: &Readings, list: &[u8]) -> La
     let mut found = scan(penalty, readings, &counts, 0, None);
     for (i, channel) in list.iter().enumerate() {
         count_slot(&mut counts, *channel);
-        found = scan(penalty, readings, &counts, (i + 1) as u16, found);
+        found = scan(penalty, readings, &counts, slot_at(i), found);
     }
     found.unwrap()
 }
@@ -45,9 +46,9 @@ fn scan<P: Penalty>(
     before: Option<Largest>,
 ) -> Option<Largest>
     ensures { λ r. ⌜ ((l : List ℕ) → slot ≤ sum (now (readings .entry) .«by_channel») →
-      Counted (now (counts .entry)) l slot →
-      Found (cost-at (cost (now (penalty .entry))) (now (readings .entry) .«by_channel») l) (Past (now (readings .entry) .«by_channel») slot 0) before →
-      Found (cost-at (cost (now (penalty .entry))) (now (readings .entry) .«by_channel») l) (Past (now (readings .entry) .«by_channel») (slot + 1) 0) r) ⌝ }
+        Counted (now (counts .entry)) l slot →
+        Found (cost-at (cost (now (penalty .entry))) (now (readings .entry) .«by_channel») l) (Past (now (readings .entry) .«by_channel») slot 0) before →
+        Found (cost-at (cost (now (penalty .entry))) (now (readings .entry) .«by_channel») l) (Past (now (readings .entry) .«by_channel») (slot + 1) 0) r) ⌝ }
 {
     let slots = readings.total();
     let mut found = before;
@@ -56,7 +57,11 @@ fn scan<P: Penalty>(
         if of_channel > 0 {
             let count = counts[usize::from(channel)];
             let cost = penalty.cost(slots, channel, of_channel, count, slot);
-            let next = Largest { cost, slot, channel };
+            let next = Largest {
+                cost,
+                slot,
+                channel,
+            };
             found = Some(larger(found, next));
         }
     }

@@ -1,10 +1,11 @@
 use native.Mathlib.Omega.{arith}
 use mathlib.Core.Logic.{⊎-elim}
 use mathlib.Core.Path.{refl}
+use Prim.Native.Nat.{_+_}
 use lib.ListN.{getD}
-use Rattle.round.specs.Lists.{Moment}
-use Rattle.round.proofs.Counts.{counted-none, count-le, channel-below, complete-known}
-use Rattle.round.proofs.Walks.{past-all, some-channel, found-some}
+use Rattle.round.specs.Lists.{Counted, Moment}
+use Rattle.round.proofs.Counts.{counted-none, counted-more, count-le, channel-below, complete-known}
+use Rattle.round.proofs.Walks.{found-at, found-some, past-all, some-channel}
 use Rattle.round.proofs.walk.largest_cost.Needs as need
 
 pub loop-i-holds : need.loop-i-holds
@@ -26,9 +27,15 @@ count-slot-requires g c κs =
 pub loop-i-again : need.loop-i-again
 loop-i-again g c =
     let list = c .args .list .now in
-    let counted = c .count-slot .ensures list (c .loop-i .i) (c .loop-i-test .taken) refl (c .loop-i .inv .1) in
-    let found = c .scan-found-in-loop-i .ensures list (omega arith) counted (c .loop-i .inv .2) in
-    (omega arith, counted, found)
+    let t = c .args .readings .now .«by_channel» in
+    let i = c .loop-i .i in
+    let below = channel-below t (getD list i 0) (complete-known t list (c .pre .1) i (c .loop-i-test .taken)) in
+    let counted : Counted (c .count-slot .last .counts) list (i + 1) =
+    rw (c .count-slot .ensures) (counted-more (c .loop-i .counts) list i (getD list i 0) (c .loop-i-test .taken) refl (omega arith) (c .loop-i .inv .1)) in
+    let slot = c .slot-at .result in
+    let found = found-at _ t (i + 1) slot (c .loop-i .found) (omega arith) (c .loop-i .inv .2) in
+    let more = c .scan-found-in-loop-i .ensures list (omega arith) (rw (c .slot-at .ensures) counted) found in
+    (omega arith, counted, found-at _ t (slot + 1) (i + 1 + 1) (c .scan-found-in-loop-i .result) (omega arith) more)
 
 pub unwrap-requires : need.unwrap-requires
 unwrap-requires g c κs =

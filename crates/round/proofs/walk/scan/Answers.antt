@@ -14,11 +14,11 @@ loop-channel-again g c list inside agree before =
     let old = c .loop-channel .inv list inside agree before in
     elim (c .if-of-channel-gt0 .came) [
       | then-of-channel-gt0 w ↦
-        let is : w .cost-cost .result ≡ cost-at f t list slot channel = let a = agree channel in cc in
-        rw (w .found-is, w .larger .ensures)
-        (found-more (cost-at f t list) (Moment t) slot channel (inside, omega arith) (w .cost-cost .result) is (c .loop-channel .found) old)
+          let is : w .cost-cost .result ≡ cost-at f t list slot channel = let a = agree channel in cc in
+          rw (w .found-is, w .larger .ensures)
+          (found-more (cost-at f t list) (Moment t) slot channel (inside, omega arith) (w .cost-cost .result) is (c .loop-channel .found) old)
       | else-of-channel-gt0 w ↦
-        rw (w .found-is) (found-skip (cost-at f t list) (Moment t) slot channel (λ m. omega (arith, m .1)) (c .loop-channel .found) old)
+          rw (w .found-is) (found-skip (cost-at f t list) (Moment t) slot channel (λ m. omega (arith, m .1)) (c .loop-channel .found) old)
     ]
 
 pub returns : need.returns
