@@ -1,3 +1,4 @@
 pub mod Audit
 pub mod Lists
 pub mod Refusals
+pub mod Walk

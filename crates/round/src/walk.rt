@@ -1,11 +1,8 @@
 // The audit of a list: its largest cost, and the first moment that has it.
-ghost use mathlib.Core.List.{List};
 ghost use mathlib.Core.Path.{_≡_};
-ghost use Prim.Native.Nat.{ℕ, _+_, _≤_};
-ghost use Rattle.std.specs.declared.option.Option.the-variants.{Some};
-ghost use Rattle.std.specs.shelf.Lists.{sum};
-ghost use Rattle.round.specs.Audit.{Audited, FirstLargest, Found, Past, larger-of};
-ghost use Rattle.round.specs.Lists.{Sound, Complete, Moment, Counted, cost-at};
+ghost use Rattle.round.specs.Audit.{Audited, FirstLargest};
+ghost use Rattle.round.specs.Lists.{Sound, Complete};
+ghost use Rattle.round.specs.Walk.{Scanned, larger-of};
 use crate::complete::count_slot;
 use crate::complete::slot_at;
 use crate::largest::Largest;
@@ -26,7 +23,7 @@ pub fn audit<P: Penalty>(penalty: &P, row: &[u16], list: &[u8]) -> Result<Larges
 // Counts the channels slot by slot, and takes the costs after each slot.
 fn largest_cost<P: Penalty>(penalty: &P, readings: &Readings, list: &[u8]) -> Largest
     requires { ⌜ Sound (now readings .«by_channel») × Complete (now readings .«by_channel») (now list) ⌝ }
-    ensures { λ r. ⌜ FirstLargest (cost-at (cost (now (penalty .entry))) (now (readings .entry) .«by_channel») (now (list .entry))) (Moment (now (readings .entry) .«by_channel»)) (r .cost) (r .slot) (r .channel) ⌝ }
+    ensures { λ r. ⌜ FirstLargest (cost (now (penalty .entry))) (now (readings .entry) .«by_channel») (now (list .entry)) r ⌝ }
 {
     let mut counts = [0; 64];
     let mut found = scan(penalty, readings, &counts, 0, None);
@@ -45,10 +42,7 @@ fn scan<P: Penalty>(
     slot: u16,
     before: Option<Largest>,
 ) -> Option<Largest>
-    ensures { λ r. ⌜ ((l : List ℕ) → slot ≤ sum (now (readings .entry) .«by_channel») →
-        Counted (now (counts .entry)) l slot →
-        Found (cost-at (cost (now (penalty .entry))) (now (readings .entry) .«by_channel») l) (Past (now (readings .entry) .«by_channel») slot 0) before →
-        Found (cost-at (cost (now (penalty .entry))) (now (readings .entry) .«by_channel») l) (Past (now (readings .entry) .«by_channel») (slot + 1) 0) r) ⌝ }
+    ensures { λ r. ⌜ Scanned (cost (now (penalty .entry))) (now (readings .entry) .«by_channel») (now (counts .entry)) slot before r ⌝ }
 {
     let slots = readings.total();
     let mut found = before;

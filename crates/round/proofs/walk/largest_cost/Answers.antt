@@ -5,7 +5,7 @@ use Prim.Native.Nat.{_+_}
 use lib.ListN.{getD}
 use Rattle.round.specs.Lists.{Counted, Moment}
 use Rattle.round.proofs.Counts.{counted-none, counted-more, count-le, channel-below, complete-known}
-use Rattle.round.proofs.Walks.{found-at, found-some, past-all, some-channel}
+use Rattle.round.proofs.Walks.{first-largest, found-at, found-some, past-all, some-channel}
 use Rattle.round.proofs.walk.largest_cost.Needs as need
 
 pub loop-i-holds : need.loop-i-holds
@@ -47,4 +47,4 @@ unwrap-requires g c κs =
 pub returns : need.returns
 returns g c =
     let all = past-all _ (c .args .readings .now .«by_channel») (c .loop-i .i) (omega arith) (c .loop-i .found) (c .loop-i .inv .2) in
-    rw (c .unwrap .ensures) at all
+    first-largest (g .P·Penalty .cost (c .args .penalty .now)) (c .args .readings .now .«by_channel») (c .args .list .now) (c .unwrap .result) (rw (c .unwrap .ensures) at all)

@@ -1,7 +1,7 @@
 use mathlib.Core.List.{List}
 use Prim.Native.Nat.{ℕ, _≤_}
 use Rattle.std.specs.shelf.Lists.{sum}
-use Rattle.round.specs.Audit.{Found, Past}
+use Rattle.round.specs.Walk.{Found, Past}
 use Rattle.round.specs.Lists.{Counted, cost-at}
 use Rattle.round.proofs.walk.scan.Given as given
 
