@@ -3,13 +3,17 @@ ghost use mathlib.Core.Path.{_≡_};
 ghost use Prim.Native.Nat.{_≤_};
 ghost use lib.ListN.{take};
 ghost use Rattle.report.specs.Input.{row-of, list-of};
+use penalty::CHANNELS;
+
+// How many bytes of the input are the row.
+const ROW: usize = 2 * CHANNELS;
 
 // Reads the numbers of the row that the input has, and answers how many there are.
-pub(crate) fn read_row(input: &[u8], row: &mut [u16; 64]) -> usize
+pub(crate) fn read_row(input: &[u8], row: &mut [u16; CHANNELS]) -> usize
     ensures few { λ r. ⌜ r ≤ 64 ⌝ }
     ensures read { λ r. ⌜ take r (now (row .exit)) ≡ row-of (now (input .entry)) ⌝ }
 {
-    let count = (input.len() / 2).min(64);
+    let count = (input.len() / 2).min(CHANNELS);
     for i in 0..count {
         row[i] = u16::from_be_bytes([input[2 * i], input[2 * i + 1]]);
     }
@@ -20,6 +24,6 @@ pub(crate) fn read_row(input: &[u8], row: &mut [u16; 64]) -> usize
 pub(crate) fn list_of(input: &[u8]) -> &[u8]
     ensures { λ r. ⌜ now r ≡ list-of (now (input .entry)) ⌝ }
 {
-    let start = input.len().min(128);
+    let start = input.len().min(ROW);
     &input[start..]
 }

@@ -2,4 +2,5 @@
 mod input;
 mod whole;
 
+pub use lines::LINE;
 pub use whole::report;

@@ -4,6 +4,7 @@ use crate::input::list_of;
 use crate::input::read_row;
 use lines::LINE;
 use lines::audit_line;
+use penalty::CHANNELS;
 use penalty::Penalty;
 use round::audit;
 
@@ -12,7 +13,7 @@ use round::audit;
 pub fn report<P: Penalty>(penalty: &P, input: &[u8], memory: &mut [u8; LINE]) -> usize
     ensures { λ r. ⌜ Reported (cost (now (penalty .entry))) (now (input .entry)) (now (memory .entry)) (now (memory .exit)) r ⌝ }
 {
-    let mut row = [0; 64];
+    let mut row = [0; CHANNELS];
     let count = read_row(input, &mut row);
     let answer = audit(penalty, &row[0..count], list_of(input));
     audit_line(memory, answer)

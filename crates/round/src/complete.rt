@@ -10,6 +10,7 @@ ghost use Rattle.round.specs.Lists.{Sound, Complete, Channel, readings, times}
 ghost use Rattle.round.specs.Refusals.{Refused};
 use crate::readings::Readings;
 use crate::refusal::Refusal;
+use penalty::CHANNELS;
 
 impl Readings {
     /// Refuses a list that is not complete.
@@ -33,14 +34,14 @@ impl Readings {
     }
 
     // How often each channel stands in a list of the right length.
-    fn tally(&self, list: &[u8]) -> Result<[u16; 64], Refusal>
+    fn tally(&self, list: &[u8]) -> Result<[u16; CHANNELS], Refusal>
         requires { ⌜ (0 < sum (now self .«by_channel»)) × (length (now list) ≡ sum (now self .«by_channel»)) ⌝ }
         ensures { λ r. ⌜ elim r [
           | Ok counts ↦ (length counts ≡ 64) × ((c : ℕ) → getD counts c 0 ≡ times c (now (list .entry))) × ((i : ℕ) → i < length (now (list .entry)) → Channel (now (self .entry) .«by_channel») (getD (now (list .entry)) i 0))
           | Err e ↦ Refused (now (self .entry) .«by_channel») (now (list .entry)) e
         ] ⌝ }
     {
-        let mut counts = [0; 64];
+        let mut counts = [0; CHANNELS];
         for (i, channel) in list.iter().enumerate() {
             if self.of(*channel) == 0 {
                 return Err(Refusal::NotAChannel { slot: slot_at(i) });
@@ -51,13 +52,13 @@ impl Readings {
     }
 
     // The smallest channel whose count is not the table's.
-    fn first_difference(&self, counts: &[u16; 64]) -> Option<u8>
+    fn first_difference(&self, counts: &[u16; CHANNELS]) -> Option<u8>
         ensures { λ r. ⌜ elim r [
           | None ↦ ((c : ℕ) → getD (now (counts .entry)) c 0 ≡ readings (now (self .entry) .«by_channel») c)
           | Some c ↦ (getD (now (counts .entry)) c 0 ≢ readings (now (self .entry) .«by_channel») c) × ((b : ℕ) → b < c → getD (now (counts .entry)) b 0 ≡ readings (now (self .entry) .«by_channel») b)
         ] ⌝ }
     {
-        for channel in 0..64u8 {
+        for channel in 0..CHANNELS as u8 {
             if counts[usize::from(channel)] != self.of(channel) {
                 return Some(channel);
             }
@@ -67,7 +68,7 @@ impl Readings {
 }
 
 // One slot more, in which `channel` stands.
-pub(crate) fn count_slot(counts: &mut [u16; 64], channel: u8)
+pub(crate) fn count_slot(counts: &mut [u16; CHANNELS], channel: u8)
     requires { ⌜ (channel < 64) × (getD (now counts) channel 0 < 4096) ⌝ }
     ensures { λ _. ⌜ now (counts .exit) ≡ set (now (counts .entry)) channel (getD (now (counts .entry)) channel 0 + 1) ⌝ }
 {

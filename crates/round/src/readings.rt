@@ -8,11 +8,13 @@ ghost use Rattle.std.specs.shelf.Lists.{sum};
 ghost use Rattle.round.specs.Lists.{readings};
 ghost use Rattle.round.specs.Refusals.{Refused};
 use crate::refusal::Refusal;
+use penalty::CHANNELS;
+use penalty::LIMIT;
 
 /// The readings of each channel number in a round, 0 where no channel is.
 #[derive(Clone, Copy)]
 pub struct Readings {
-    by_channel: [u16; 64],
+    by_channel: [u16; CHANNELS],
     total: u16,
     ghost long: { length «by_channel» ≡ 64 },
     ghost summed: { total ≡ sum «by_channel» },
@@ -27,14 +29,14 @@ impl Readings {
           | Err e ↦ ((l : List ℕ) → Refused (now (row .entry)) l e)
         ] ⌝ }
     {
-        if row.len() != 64 {
+        if row.len() != CHANNELS {
             return Err(Refusal::RowLength);
         }
         let total = sum_of(row)?;
-        if total > 4096 {
+        if total > u32::from(LIMIT) {
             return Err(Refusal::TotalAboveLimit);
         }
-        let mut by_channel = [0; 64];
+        let mut by_channel = [0; CHANNELS];
         by_channel.copy_from_slice(row);
         Ok(Readings {
             by_channel,
@@ -53,7 +55,7 @@ impl Readings {
     pub fn of(&self, channel: u8) -> u16
         ensures { λ r. ⌜ r ≡ readings (now (self .entry) .«by_channel») channel ⌝ }
     {
-        if channel > 63 {
+        if usize::from(channel) >= CHANNELS {
             return 0;
         }
         self.by_channel[usize::from(channel)]
@@ -70,7 +72,7 @@ fn sum_of(row: &[u16]) -> Result<u32, Refusal>
 {
     let mut total = 0;
     for n in row {
-        if *n > 4096 {
+        if *n > LIMIT {
             return Err(Refusal::ReadingsAboveLimit);
         }
         total += u32::from(*n);

@@ -8,6 +8,7 @@ use crate::complete::slot_at;
 use crate::largest::Largest;
 use crate::readings::Readings;
 use crate::refusal::Refusal;
+use penalty::CHANNELS;
 use penalty::Penalty;
 
 /// The largest cost of the list for the channels of the row, and the first moment that has it:
@@ -25,7 +26,7 @@ fn largest_cost<P: Penalty>(penalty: &P, readings: &Readings, list: &[u8]) -> La
     requires { ⌜ Sound (now readings .«by_channel») × Complete (now readings .«by_channel») (now list) ⌝ }
     ensures { λ r. ⌜ FirstLargest (cost (now (penalty .entry))) (now (readings .entry) .«by_channel») (now (list .entry)) r ⌝ }
 {
-    let mut counts = [0; 64];
+    let mut counts = [0; CHANNELS];
     let mut found = scan(penalty, readings, &counts, 0, None);
     for (i, channel) in list.iter().enumerate() {
         count_slot(&mut counts, *channel);
@@ -38,7 +39,7 @@ fn largest_cost<P: Penalty>(penalty: &P, readings: &Readings, list: &[u8]) -> La
 fn scan<P: Penalty>(
     penalty: &P,
     readings: &Readings,
-    counts: &[u16; 64],
+    counts: &[u16; CHANNELS],
     slot: u16,
     before: Option<Largest>,
 ) -> Option<Largest>
@@ -46,7 +47,7 @@ fn scan<P: Penalty>(
 {
     let slots = readings.total();
     let mut found = before;
-    for channel in 0..64u8 {
+    for channel in 0..CHANNELS as u8 {
         let of_channel = readings.of(channel);
         if of_channel > 0 {
             let count = counts[usize::from(channel)];

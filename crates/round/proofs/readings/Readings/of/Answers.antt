@@ -6,5 +6,5 @@ use lib.ListN.{length}
 use Rattle.std.proofs.shelf.Lists.{getD-past}
 use Rattle.round.proofs.readings.Readings.of.Needs as need
 
-pub returns-then-channel-gt63 : need.returns-then-channel-gt63
-returns-then-channel-gt63 c = sym (getD-past (c .args .self .now .«by_channel») (c .args .channel) 0 (omega arith))
+pub returns-then-from-ge-CHANNELS : need.returns-then-from-ge-CHANNELS
+returns-then-from-ge-CHANNELS c = sym (getD-past (c .args .self .now .«by_channel») (c .args .channel) 0 (omega arith))

@@ -1,0 +1,5 @@
+use lib.ListN.{length}
+use Rattle.audit_cases.proofs.main.Given as given
+
+abbrev pub μ-loop-case : given.MeasureT-loop-case
+μ-loop-case l = length (l .cases)
