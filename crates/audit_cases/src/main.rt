@@ -36,3 +36,75 @@ fn main(rt: LibcRuntime) -> io::Result<()> {
     }
     Ok(())
 }
+
+#[cfg(test)]
+mod tests {
+    use penalty::AbsoluteDeviation;
+    use penalty::AbsolutePenalty;
+    use penalty::Penalty;
+    use penalty::TOP;
+    use round::Largest;
+    use round::LargestDebug;
+    use round::LargestPartialEq;
+    use round::Refusal;
+    use round::RefusalDebug;
+    use round::RefusalPartialEq;
+    use round::audit;
+    use std::test::*;
+
+    // The audit of readings for channels 0 and 1.
+    fn audited(first: u16, second: u16, list: &[u8]) -> Result<Largest, Refusal> {
+        let mut row = [0; 64];
+        row[0] = first;
+        row[1] = second;
+        audit(&AbsoluteDeviation, &row, list)
+    }
+
+    #[test]
+    fn audits() -> Result<(), Fail> {
+        let even = Largest {
+            cost: 1,
+            slot: 1,
+            channel: 0,
+        };
+        check_eq(audited(2, 1, &[0, 1, 0]), Ok(even))?;
+        let uneven = Largest {
+            cost: 2,
+            slot: 2,
+            channel: 0,
+        };
+        check_eq(audited(2, 1, &[0, 0, 1]), Ok(uneven))
+    }
+
+    #[test]
+    fn refuses() -> Result<(), Fail> {
+        check_eq(
+            audit(&AbsoluteDeviation, &[1], &[0]),
+            Err(Refusal::RowLength),
+        )?;
+        check_eq(audited(4097, 0, &[]), Err(Refusal::ReadingsAboveLimit))?;
+        check_eq(audited(4096, 1, &[]), Err(Refusal::TotalAboveLimit))?;
+        check_eq(audited(0, 0, &[]), Err(Refusal::NoChannel))?;
+        check_eq(audited(2, 1, &[0, 1]), Err(Refusal::ListLength))?;
+        check_eq(
+            audited(2, 1, &[0, 2, 9]),
+            Err(Refusal::NotAChannel { slot: 2 }),
+        )?;
+        check_eq(
+            audited(2, 1, &[1, 1, 0]),
+            Err(Refusal::WrongCount { channel: 0 }),
+        )
+    }
+
+    #[test]
+    fn costs() -> Result<(), Fail> {
+        check_eq(AbsoluteDeviation.cost(3, 0, 2, 1, 1), 1)?;
+        check_eq(AbsoluteDeviation.cost(3, 0, 2, 0, 1), 2)?;
+        check_eq(AbsoluteDeviation.cost(4096, 63, 4096, 4096, 0), 16_777_216)?;
+        check_eq(AbsoluteDeviation.cost(4097, 0, 1, 0, 0), TOP)?;
+        check_eq(AbsoluteDeviation.cost(3, 64, 2, 1, 1), TOP)?;
+        check_eq(AbsoluteDeviation.cost(3, 0, 2, 3, 1), TOP)?;
+        check_eq(AbsoluteDeviation.cost(3, 0, 2, 1, 4), TOP)?;
+        check_eq(AbsoluteDeviation.depth(), 0)
+    }
+}

@@ -7,7 +7,7 @@ use crate::interface::Penalty;
 use crate::interface::TOP;
 
 /// The size of S·x − k·d.
-#[derive(Clone, Copy)]
+#[derive(Clone, Copy, Debug)]
 pub struct AbsoluteDeviation;
 
 pub impl Penalty for AbsoluteDeviation as AbsolutePenalty {

@@ -3,7 +3,7 @@ ghost use mathlib.Core.Path.{_≡_};
 ghost use Rattle.round.specs.Refusals.{number};
 
 /// The first fault of a table or a list, in the order of the checks.
-#[derive(Clone, Copy)]
+#[derive(Clone, Copy, PartialEq, Eq, Debug)]
 pub enum Refusal {
     /// The row is not 64 long.
     RowLength,
