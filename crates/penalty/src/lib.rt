@@ -5,6 +5,7 @@ mod interface;
 
 pub use absolute::AbsoluteDeviation;
 pub use absolute::AbsolutePenalty;
+pub use domain::in_domain;
 pub use interface::CHANNELS;
 pub use interface::LIMIT;
 pub use interface::Penalty;

@@ -15,7 +15,7 @@ use Rattle.std.proofs.shelf.Sums.{sumBy-cons}
 use Rattle.std.proofs.shelf.Tests.{cases-bool, cases-lt, ltb-true, ltb-false}
 use Rattle.penalty.specs.Cost.{Cost}
 use Rattle.round.specs.Audit.{FirstLargest}
-use Rattle.round.specs.Walk.{Top, Found, Past, larger-of}
+use Rattle.round.specs.Walk.{FirstMaximum, Found, Past, larger-of}
 use Rattle.round.specs.Lists.{Channel, Moment, Before, cost-at}
 use Rattle.round.proofs.Counts.{channel-below}
 use Rattle.round.specs.declared.largest.Largest.{Largest}
@@ -56,7 +56,7 @@ module _ (g : ℕ → ℕ → ℕ) where
 
     module _ (here : M k c) (n : ℕ) (is : n ≡ g k c) where
       -- the pair is the largest where it passes all before it
-      takes : ((j b : ℕ) → M j b → Before j b k c → g j b < n) → Top g (λ j b. M j b × Before j b k (c + 1)) (record { cost = n; slot = k; channel = c })
+      takes : ((j b : ℕ) → M j b → Before j b k c → g j b < n) → FirstMaximum g (λ j b. M j b × Before j b k (c + 1)) (record { cost = n; slot = k; channel = c })
       takes above = record {
         moment = (here, inr (refl, omega arith));
         exact = sym is;
@@ -111,7 +111,7 @@ found-some g M None h j b m = absurd (h j b m)
 found-some g M (Some r) h j b m = refl
 
 -- what was found over all moments is the largest cost with its first moment
-pub first-largest : (f : Cost) (t l : List ℕ) (r : Largest) → Top (cost-at f t l) (Moment t) r → FirstLargest f t l r
+pub first-largest : (f : Cost) (t l : List ℕ) (r : Largest) → FirstMaximum (cost-at f t l) (Moment t) r → FirstLargest f t l r
 first-largest f t l r h = record {
   largest = record { within = h .within; attained = (r .slot, r .channel, h .moment, h .exact) };
   first = record { moment = h .moment; costs = h .exact; none-before = λ j b m p same. let less = h .first j b m p in omega arith };

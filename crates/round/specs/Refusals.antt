@@ -3,7 +3,7 @@ use mathlib.Core.Path.{_≡_}
 use mathlib.Core.Bool.{cond}
 use mathlib.Core.List.{List}
 use mathlib.Core.Logic.{_⊎_, _≢_}
-use Prim.Native.Nat.{ℕ, _+_, _<_}
+use Prim.Native.Nat.{ℕ, _+_, _<_, _≤_}
 use lib.Dec.{eqb}
 use lib.ListN.{length, getD}
 use Rattle.std.specs.shelf.Lists.{sum}
@@ -53,3 +53,8 @@ Sooner e f = (turn (number e) < turn (number f)) ⊎ ((number e ≡ number f) ×
 pub record Refused (t l : List ℕ) (e : Refusal) : Type 0 where
   pub fault : Fault t l e
   pub first : (s : Refusal) → Sooner s e → Fault t l s → ⊥
+
+-- e is the refusal of t as a table, by 17, 2 or 5, whatever the list
+pub record RowRefused (t : List ℕ) (e : Refusal) : Type 0 where
+  pub row : turn (number e) ≤ 5
+  pub refused : (l : List ℕ) → Refused t l e

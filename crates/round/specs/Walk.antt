@@ -12,7 +12,7 @@ use Rattle.round.specs.Lists.{Moment, Before, Counted, cost-at}
 use Rattle.round.specs.declared.largest.Largest.{Largest}
 
 -- r has the largest value of g over the pairs in M, and the first pair that has it
-pub record Top (g : ℕ → ℕ → ℕ) (M : ℕ → ℕ → Type 0) (r : Largest) : Type 0 where
+pub record FirstMaximum (g : ℕ → ℕ → ℕ) (M : ℕ → ℕ → Type 0) (r : Largest) : Type 0 where
   pub moment : M (r .slot) (r .channel)
   pub exact : g (r .slot) (r .channel) ≡ r .cost
   pub within : (j b : ℕ) → M j b → g j b ≤ r .cost
@@ -21,7 +21,7 @@ pub record Top (g : ℕ → ℕ → ℕ) (M : ℕ → ℕ → Type 0) (r : Large
 -- what was found over the pairs in M: nothing only where there are none
 abbrev pub Found : (ℕ → ℕ → ℕ) → (ℕ → ℕ → Type 0) → Option Largest → Type 0
 Found g M None = (j b : ℕ) → M j b → ⊥
-Found g M (Some r) = Top g M r
+Found g M (Some r) = FirstMaximum g M r
 
 -- the moments before (k, c)
 abbrev pub Past : List ℕ → ℕ → ℕ → ℕ → ℕ → Type 0

@@ -1,12 +1,11 @@
 // The table of readings by channel number.
 ghost use mathlib.Core.Path.{_≡_};
-ghost use mathlib.Core.List.{List};
 ghost use Prim.Native.Nat.{ℕ, _<_, _≤_};
 ghost use lib.ListN.{length, getD};
 ghost use Rattle.std.specs.declared.result.Result.the-variants.{Ok, Err};
 ghost use Rattle.std.specs.shelf.Lists.{sum};
 ghost use Rattle.round.specs.Lists.{readings};
-ghost use Rattle.round.specs.Refusals.{Refused};
+ghost use Rattle.round.specs.Refusals.{RowRefused};
 use crate::refusal::Refusal;
 use penalty::CHANNELS;
 use penalty::LIMIT;
@@ -26,7 +25,7 @@ impl Readings {
     pub fn from_row(row: &[u16]) -> Result<Readings, Refusal>
         ensures { λ r. ⌜ elim r [
           | Ok table ↦ table .«by_channel» ≡ now (row .entry)
-          | Err e ↦ ((l : List ℕ) → Refused (now (row .entry)) l e)
+          | Err e ↦ RowRefused (now (row .entry)) e
         ] ⌝ }
     {
         if row.len() != CHANNELS {
@@ -67,7 +66,7 @@ fn sum_of(row: &[u16]) -> Result<u32, Refusal>
     requires { ⌜ length (now row) ≡ 64 ⌝ }
     ensures { λ r. ⌜ elim r [
       | Ok n ↦ (n ≡ sum (now (row .entry))) × ((c : ℕ) → readings (now (row .entry)) c ≤ 4096)
-      | Err e ↦ ((l : List ℕ) → Refused (now (row .entry)) l e)
+      | Err e ↦ RowRefused (now (row .entry)) e
     ] ⌝ }
 {
     let mut total = 0;
