@@ -2,10 +2,8 @@
 ghost use Prim.Native.Nat.{_<_};
 ghost use lib.ListN.{length};
 ghost use Rattle.std.specs.declared.option.Option.the-variants.{Some, None};
-use penalty::AbsoluteDeviation;
-use penalty::AbsolutePenalty;
-use report::LINE;
-use report::report;
+use report::LINE_BYTES;
+use report::report_absolute;
 use std::io;
 use std::io::Read;
 use std::io::Write;
@@ -17,20 +15,20 @@ fn next_case(cases: &[u8]) -> Option<(&[u8], &[u8])>
     let [a, b, c, d, rest @ ..] = cases else {
         return None;
     };
-    let long = u32::from_be_bytes([*a, *b, *c, *d]) as usize;
-    if long > rest.len() {
+    let length = u32::from_be_bytes([*a, *b, *c, *d]) as usize;
+    if length > rest.len() {
         return None;
     }
-    Some(rest.split_at(long))
+    Some(rest.split_at(length))
 }
 
 fn main(rt: LibcRuntime) -> io::Result<()> {
     let mut input = Vec::new(rt.alloc());
     rt.stdin().read_to_end(&mut input)?;
-    let mut line = [0; LINE];
+    let mut line = [0; LINE_BYTES];
     let mut cases = input.as_slice();
     while let Some((case, rest)) = next_case(cases) {
-        let length = report(&AbsoluteDeviation, case, &mut line);
+        let length = report_absolute(case, &mut line);
         rt.stdout().write_all(&line[0..length])?;
         cases = rest;
     }

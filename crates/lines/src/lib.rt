@@ -2,5 +2,5 @@
 mod audited;
 mod put;
 
-pub use audited::LINE;
+pub use audited::LINE_BYTES;
 pub use audited::audit_line;

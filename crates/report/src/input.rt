@@ -6,7 +6,7 @@ ghost use Rattle.report.specs.Input.{row-of, list-of};
 use penalty::CHANNELS;
 
 // How many bytes of the input are the row.
-const ROW: usize = 2 * CHANNELS;
+const ROW_BYTES: usize = 2 * CHANNELS;
 
 // Reads the numbers of the row that the input has, and answers how many there are.
 pub(crate) fn read_row(input: &[u8], row: &mut [u16; CHANNELS]) -> usize
@@ -24,6 +24,6 @@ pub(crate) fn read_row(input: &[u8], row: &mut [u16; CHANNELS]) -> usize
 pub(crate) fn list_of(input: &[u8]) -> &[u8]
     ensures { λ r. ⌜ now r ≡ list-of (now (input .entry)) ⌝ }
 {
-    let start = input.len().min(ROW);
+    let start = input.len().min(ROW_BYTES);
     &input[start..]
 }

@@ -2,5 +2,6 @@
 mod input;
 mod whole;
 
-pub use lines::LINE;
+pub use lines::LINE_BYTES;
 pub use whole::report;
+pub use whole::report_absolute;

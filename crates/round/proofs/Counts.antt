@@ -11,7 +11,8 @@ use Rattle.std.specs.shelf.Lists.{sum}
 use Rattle.std.proofs.shelf.Lists.{getD-replicate, getD-past, getD-set-same, getD-set-other, length-replicate, length-take}
 use Rattle.std.proofs.shelf.Sums.{countBy-more-yes, countBy-more-no, countBy-le-length, sumBy-cons, sumBy-take-le}
 use Rattle.std.proofs.shelf.Tests.{cases-eq, cases-lt, eq-eqb, ne-eqb}
-use Rattle.round.specs.Lists.{readings, Channel, Complete, Counted, times, count}
+use Rattle.round.specs.Lists.{readings, Channel, Complete, times, count}
+use Rattle.round.specs.Walk.{Counted}
 
 pub counted-none : (n : ℕ) (l : List ℕ) → Counted (replicate n 0) l 0
 counted-none n l c =
@@ -53,6 +54,10 @@ complete-known t l whole i h =
     let yes = countBy-more-yes (eqb b) l i 0 h (eq-eqb b b refl) in
     let some = sumBy-take-le (λ x. cond (eqb b x) 1 0) l (i + 1) in
     omega (arith, whole .each b)
+
+-- a bound on the numbers of a table holds of every channel number, since past its end there are no readings
+pub readings-bound : (t : List ℕ) (n : ℕ) → ((c : ℕ) → c < length t → readings t c ≤ n) → (c : ℕ) → readings t c ≤ n
+readings-bound t n h c = ⊎-elim (λ below. h c below) (λ past. rw (getD-past t c 0 past) (omega arith)) (cases-lt c (length t))
 
 -- only the numbers of the table are channels
 pub channel-below : (t : List ℕ) (c : ℕ) → Channel t c → c < length t

@@ -6,24 +6,15 @@ use Prim.Native.Nat.{ℕ, _+_, _<_, _≤_}
 use native.Mathlib.Omega.{arith}
 use lib.ListN.{length, getD}
 use Rattle.std.specs.shelf.Lists.{sum}
-use Rattle.std.proofs.shelf.Lists.{getD-past}
 use Rattle.std.proofs.shelf.Sums.{getD-le-sumBy}
-use Rattle.std.proofs.shelf.Tests.{cases-eq, cases-lt}
+use Rattle.std.proofs.shelf.Tests.{cases-eq}
 use Rattle.round.specs.Lists.{readings, Channel, times}
-use Rattle.round.proofs.Counts.{absent}
+use Rattle.round.proofs.Counts.{absent, readings-bound}
 use Rattle.round.specs.Refusals.{Fault, Sooner, Refused, number, value, turn}
 use Rattle.round.specs.declared.refusal.Refusal.{Refusal}
 use Rattle.round.specs.declared.refusal.Refusal.the-variants.{RowLength, ReadingsAboveLimit, TotalAboveLimit, NoChannel, ListLength, NotAChannel, WrongCount}
 
--- no channel has more readings than the table
-pub readings-le : (t : List ℕ) (c : ℕ) {n : ℕ} → sum t ≤ n → readings t c ≤ n
-readings-le t c h =
-    ⊎-elim
-    (λ below. let le = getD-le-sumBy (λ x. x) t c 0 below in omega arith)
-    (λ past. rw (getD-past t c 0 past) (omega arith))
-    (cases-lt c (length t))
-
--- each check before turn n, but the last kind of all, has passed
+-- the checks that come before turn n have passed; 16 is the last, and has nothing behind it
 pub record Passed (t l : List ℕ) (n : ℕ) : Type 0 where
   pub long : 0 < n → length t ≡ 64
   pub small : 2 < n → (c : ℕ) → readings t c ≤ 4096
@@ -54,7 +45,7 @@ module _ (t l : List ℕ) (long : length t ≡ 64) (few : sum t ≤ 4096) where
   passed : (n : ℕ) → (6 < n → 0 < sum t) → (14 < n → length l ≡ sum t) → (15 < n → (i : ℕ) → i < length l → Channel t (getD l i 0)) → Passed t l n
   passed n some full known = record {
     long = λ _. long;
-    small = λ _ c. readings-le t c few;
+    small = λ _. readings-bound t 4096 (λ c below. let le = getD-le-sumBy (λ x. x) t c 0 below in omega arith);
     few = λ _. few;
     some = some;
     full = full;

@@ -31,11 +31,7 @@ times c l = countBy (eqb c) l
 abbrev pub count : List ℕ → ℕ → ℕ → ℕ
 count l c k = times c (take k l)
 
--- a row of numbers holds the count of every channel after k slots
-abbrev pub Counted : List ℕ → List ℕ → ℕ → Type 0
-Counted counts l k = (c : ℕ) → getD counts c 0 ≡ count l c k
-
--- a list is complete when it has S slots and each channel stands in it as often as the table says
+-- a list is complete when it has S slots and every number c stands in it d(c) times, 0 for what is no channel
 pub record Complete (t l : List ℕ) : Type 0 where
   pub full : length l ≡ sum t
   pub each : (c : ℕ) → times c l ≡ readings t c

@@ -1,13 +1,15 @@
 // The check that a list is complete: every slot has a channel of the table, as often as the table says.
 ghost use mathlib.Core.Path.{_≡_};
-ghost use Prim.Native.Nat.{ℕ, _+_, _<_, _≤_};
-ghost use lib.ListN.{length, getD, set};
+ghost use Prim.Native.Nat.{ℕ, _<_};
+ghost use lib.ListN.{length, getD};
 ghost use mathlib.Core.Logic.{_≢_};
 ghost use Rattle.std.specs.declared.option.Option.the-variants.{Some, None};
 ghost use Rattle.std.specs.declared.result.Result.the-variants.{Ok, Err};
 ghost use Rattle.std.specs.shelf.Lists.{sum};
 ghost use Rattle.round.specs.Lists.{Sound, Complete, Channel, readings, times};
 ghost use Rattle.round.specs.Refusals.{Refused};
+use crate::counting::count_slot;
+use crate::counting::slot_at;
 use crate::readings::Readings;
 use crate::refusal::Refusal;
 use penalty::CHANNELS;
@@ -42,11 +44,11 @@ impl Readings {
         ] ⌝ }
     {
         let mut counts = [0; CHANNELS];
-        for (i, channel) in list.iter().enumerate() {
-            if self.of(*channel) == 0 {
+        for (i, &channel) in list.iter().enumerate() {
+            if self.of(channel) == 0 {
                 return Err(Refusal::NotAChannel { slot: slot_at(i) });
             }
-            count_slot(&mut counts, *channel);
+            count_slot(&mut counts, channel);
         }
         Ok(counts)
     }
@@ -65,20 +67,4 @@ impl Readings {
         }
         None
     }
-}
-
-// One slot more, in which `channel` stands.
-pub(crate) fn count_slot(counts: &mut [u16; CHANNELS], channel: u8)
-    requires { ⌜ (channel < 64) × (getD (now counts) channel 0 < 4096) ⌝ }
-    ensures { λ _. ⌜ now (counts .exit) ≡ set (now (counts .entry)) channel (getD (now (counts .entry)) channel 0 + 1) ⌝ }
-{
-    counts[usize::from(channel)] += 1;
-}
-
-// The slot at a place of the list: places are numbered from 0, slots from 1.
-pub(crate) fn slot_at(place: usize) -> u16
-    requires { ⌜ place < 4096 ⌝ }
-    ensures { λ r. ⌜ r ≡ place + 1 ⌝ }
-{
-    (place + 1) as u16
 }

@@ -1,5 +1,6 @@
 // Readings, scan lists and their audit.
 mod complete;
+mod counting;
 mod largest;
 mod readings;
 mod refusal;

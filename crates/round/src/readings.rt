@@ -2,6 +2,7 @@
 ghost use mathlib.Core.Path.{_≡_};
 ghost use Prim.Native.Nat.{ℕ, _<_, _≤_};
 ghost use lib.ListN.{length, getD};
+ghost use Rattle.std.specs.Orderings.{When};
 ghost use Rattle.std.specs.declared.result.Result.the-variants.{Ok, Err};
 ghost use Rattle.std.specs.shelf.Lists.{sum};
 ghost use Rattle.round.specs.Lists.{readings};
@@ -31,7 +32,10 @@ impl Readings {
         if row.len() != CHANNELS {
             return Err(Refusal::RowLength);
         }
-        let total = sum_of(row)?;
+        let total = sum_of(row);
+        if !within_limit(row) {
+            return Err(Refusal::ReadingsAboveLimit);
+        }
         if total > u32::from(LIMIT) {
             return Err(Refusal::TotalAboveLimit);
         }
@@ -61,20 +65,26 @@ impl Readings {
     }
 }
 
-// The sum of a row, unless a number of it is above 4,096.
-fn sum_of(row: &[u16]) -> Result<u32, Refusal>
+// Whether no number of a row is above the limit.
+fn within_limit(row: &[u16]) -> bool
+    ensures { λ r. ⌜ When r ((c : ℕ) → readings (now (row .entry)) c ≤ 4096) ((c : ℕ) × (4096 < readings (now (row .entry)) c)) ⌝ }
+{
+    for &n in row {
+        if n > LIMIT {
+            return false;
+        }
+    }
+    true
+}
+
+// The sum of a row.
+fn sum_of(row: &[u16]) -> u32
     requires { ⌜ length (now row) ≡ 64 ⌝ }
-    ensures { λ r. ⌜ elim r [
-      | Ok n ↦ (n ≡ sum (now (row .entry))) × ((c : ℕ) → readings (now (row .entry)) c ≤ 4096)
-      | Err e ↦ RowRefused (now (row .entry)) e
-    ] ⌝ }
+    ensures { λ r. ⌜ r ≡ sum (now (row .entry)) ⌝ }
 {
     let mut total = 0;
-    for n in row {
-        if *n > LIMIT {
-            return Err(Refusal::ReadingsAboveLimit);
-        }
-        total += u32::from(*n);
+    for &n in row {
+        total += u32::from(n);
     }
-    Ok(total)
+    total
 }

@@ -1,10 +1,13 @@
 // The audit of a list: its largest cost, and the first moment that has it.
 ghost use mathlib.Core.Path.{_≡_};
+ghost use Prim.Native.Nat.{_<_};
+ghost use lib.ListN.{getD};
+ghost use Rattle.std.specs.shelf.Lists.{sum};
 ghost use Rattle.round.specs.Audit.{Audited, FirstLargest};
-ghost use Rattle.round.specs.Lists.{Sound, Complete};
+ghost use Rattle.round.specs.Lists.{Sound, Complete, readings as d-of};
 ghost use Rattle.round.specs.Walk.{Scanned, larger-of};
-use crate::complete::count_slot;
-use crate::complete::slot_at;
+use crate::counting::count_slot;
+use crate::counting::slot_at;
 use crate::largest::Largest;
 use crate::readings::Readings;
 use crate::refusal::Refusal;
@@ -12,7 +15,7 @@ use penalty::CHANNELS;
 use penalty::Penalty;
 
 /// The largest cost of the list for the channels of the row, and the first moment that has it:
-/// the smallest slot, then the smallest channel.
+/// the smallest k, then the smallest channel.
 pub fn audit<P: Penalty>(penalty: &P, row: &[u16], list: &[u8]) -> Result<Largest, Refusal>
     ensures { λ r. ⌜ Audited (cost (now (penalty .entry))) (now (row .entry)) (now (list .entry)) r ⌝ }
 {
@@ -28,14 +31,14 @@ fn largest_cost<P: Penalty>(penalty: &P, readings: &Readings, list: &[u8]) -> La
 {
     let mut counts = [0; CHANNELS];
     let mut found = scan(penalty, readings, &counts, 0, None);
-    for (i, channel) in list.iter().enumerate() {
-        count_slot(&mut counts, *channel);
+    for (i, &channel) in list.iter().enumerate() {
+        count_slot(&mut counts, channel);
         found = scan(penalty, readings, &counts, slot_at(i), found);
     }
     found.unwrap()
 }
 
-// Takes the cost of each channel after one slot into account, in the order of the channels.
+// Takes the cost of each channel after a slot into account, in the order of the channels.
 fn scan<P: Penalty>(
     penalty: &P,
     readings: &Readings,
@@ -45,13 +48,10 @@ fn scan<P: Penalty>(
 ) -> Option<Largest>
     ensures { λ r. ⌜ Scanned (cost (now (penalty .entry))) (now (readings .entry) .«by_channel») (now (counts .entry)) slot before r ⌝ }
 {
-    let slots = readings.total();
     let mut found = before;
     for channel in 0..CHANNELS as u8 {
-        let of_channel = readings.of(channel);
-        if of_channel > 0 {
-            let count = counts[usize::from(channel)];
-            let cost = penalty.cost(slots, channel, of_channel, count, slot);
+        if readings.of(channel) > 0 {
+            let cost = cost_after(penalty, readings, counts, slot, channel);
             let next = Largest {
                 cost,
                 slot,
@@ -61,6 +61,21 @@ fn scan<P: Penalty>(
         }
     }
     found
+}
+
+// What the count of a channel costs after a slot.
+fn cost_after<P: Penalty>(
+    penalty: &P,
+    readings: &Readings,
+    counts: &[u16; CHANNELS],
+    slot: u16,
+    channel: u8,
+) -> u64
+    requires { ⌜ channel < 64 ⌝ }
+    ensures { λ r. ⌜ r ≡ cost (now (penalty .entry)) (sum (now (readings .entry) .«by_channel»)) channel (d-of (now (readings .entry) .«by_channel») channel) (getD (now (counts .entry)) channel 0) slot ⌝ }
+{
+    let count = counts[usize::from(channel)];
+    penalty.cost(readings.total(), channel, readings.of(channel), count, slot)
 }
 
 // The larger of what was found before and the next; of equal costs the earlier stays.

@@ -1,3 +1,4 @@
+-- The fields one after another are the line.
 use native.Mathlib.Omega.{arith}
 use Rattle.lines.proofs.Puts.{put-then, written}
 use Rattle.lines.proofs.audited.largest_line.Needs as need
@@ -5,7 +6,7 @@ use Rattle.lines.proofs.audited.largest_line.Needs as need
 pub returns : need.returns
 returns c =
     written (omega arith)
-    (put-then (c .put-field-slot .ensures .written)
-    (put-then (c .put-field-channel .ensures .written)
-    (put-then (c .put-field-end .ensures .written) (c .put .ensures))))
+    (put-then (c .put-field-after-cost .ensures .written)
+    (put-then (rw (c .from .ensures) at (c .put-field-after-slot .ensures .written))
+    (put-then (rw (c .from-2 .ensures) at (c .put-field-after-channel .ensures .written)) (c .put .ensures))))
     (omega arith)

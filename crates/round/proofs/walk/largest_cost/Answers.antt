@@ -3,7 +3,8 @@ use mathlib.Core.Logic.{⊎-elim}
 use mathlib.Core.Path.{refl}
 use Prim.Native.Nat.{_+_}
 use lib.ListN.{getD}
-use Rattle.round.specs.Lists.{Counted, Moment}
+use Rattle.round.specs.Lists.{Moment}
+use Rattle.round.specs.Walk.{Counted}
 use Rattle.round.proofs.Counts.{counted-none, counted-more, count-le, channel-below, complete-known}
 use Rattle.round.proofs.Walks.{first-largest, found-at, found-some, past-all, some-channel}
 use Rattle.round.proofs.walk.largest_cost.Needs as need

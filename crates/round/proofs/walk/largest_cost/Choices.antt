@@ -1,8 +1,8 @@
 use mathlib.Core.Path.{_≡_}
 use Prim.Native.Nat.{_+_}
 use lib.ListN.{length}
-use Rattle.round.specs.Walk.{Found, Past}
-use Rattle.round.specs.Lists.{Counted, cost-at}
+use Rattle.round.specs.Walk.{Counted, Found, Past}
+use Rattle.round.specs.Lists.{cost-at}
 use Rattle.round.proofs.walk.largest_cost.Given as given
 
 abbrev pub Inv-loop-i : given.InvT-loop-i

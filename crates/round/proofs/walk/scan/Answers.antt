@@ -1,9 +1,12 @@
+-- One channel more, and the end of the channels.
 use native.Mathlib.Omega.{arith}
-use mathlib.Core.Path.{_≡_}
-use Rattle.round.specs.Lists.{Moment, cost-at}
+use mathlib.Core.Path.{_≡_, ap, _∙_}
+use Prim.Native.Nat.{ℕ}
+use Rattle.std.specs.shelf.Lists.{sum}
+use Rattle.round.specs.Lists.{Moment, readings, cost-at}
 use Rattle.round.proofs.Walks.{found-skip, found-more, past-slot}
 use Rattle.round.proofs.walk.scan.Needs as need
-use Rattle.round.proofs.walk.scan.Needs.{then-of-channel-gt0, else-of-channel-gt0}
+use Rattle.round.proofs.walk.scan.Needs.{then-of-gt0, else-of-gt0}
 
 pub loop-channel-again : need.loop-channel-again
 loop-channel-again g c list inside agree before =
@@ -12,12 +15,12 @@ loop-channel-again g c list inside agree before =
     let slot = c .args .slot in
     let channel = c .loop-channel .channel in
     let old = c .loop-channel .inv list inside agree before in
-    elim (c .if-of-channel-gt0 .came) [
-      | then-of-channel-gt0 w ↦
-          let is : w .cost-cost .result ≡ cost-at f t list slot channel = let a = agree channel in cc in
+    elim (c .if-of-gt0 .came) [
+      | then-of-gt0 w ↦
+          let is : w .cost-after-cost .result ≡ cost-at f t list slot channel = w .cost-after-cost .ensures ∙ ap (λ x. f (sum t) channel (readings t channel) x slot) (agree channel) in
           rw (w .found-is, w .larger .ensures)
-          (found-more (cost-at f t list) (Moment t) slot channel (inside, omega arith) (w .cost-cost .result) is (c .loop-channel .found) old)
-      | else-of-channel-gt0 w ↦
+          (found-more (cost-at f t list) (Moment t) slot channel (inside, omega arith) (w .cost-after-cost .result) is (c .loop-channel .found) old)
+      | else-of-gt0 w ↦
           rw (w .found-is) (found-skip (cost-at f t list) (Moment t) slot channel (λ m. omega (arith, m .1)) (c .loop-channel .found) old)
     ]
 

@@ -1,8 +1,8 @@
 use mathlib.Core.List.{List}
 use Prim.Native.Nat.{ℕ, _≤_}
 use Rattle.std.specs.shelf.Lists.{sum}
-use Rattle.round.specs.Walk.{Found, Past}
-use Rattle.round.specs.Lists.{Counted, cost-at}
+use Rattle.round.specs.Walk.{Counted, Found, Past}
+use Rattle.round.specs.Lists.{cost-at}
 use Rattle.round.proofs.walk.scan.Given as given
 
 abbrev pub Inv-loop-channel : given.InvT-loop-channel

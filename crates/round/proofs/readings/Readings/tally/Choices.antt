@@ -1,7 +1,8 @@
 use mathlib.Core.Path.{_≡_}
 use Prim.Native.Nat.{ℕ, _<_}
 use lib.ListN.{length, getD}
-use Rattle.round.specs.Lists.{Channel, Counted}
+use Rattle.round.specs.Lists.{Channel}
+use Rattle.round.specs.Walk.{Counted}
 use Rattle.round.proofs.readings.Readings.tally.Given as given
 
 abbrev pub Inv-loop-i : given.InvT-loop-i
