@@ -75,11 +75,11 @@ def by_hand():
     yield bytes_of(table(c5=3, c9=2), [5, 9, 5, 9, 5]), "LARGEST 2 MOMENT 1 5"
     # one channel of 4,096 stands everywhere, so it never departs
     yield bytes_of(table(c7=4096), [7] * 4096), "LARGEST 0 MOMENT 0 7"
-    # 64 channels of 64 in turn: after k slots, k = 64·t + r, a channel that has had its turn in
-    # this round is 64·(64 − r) ahead and another 64·r behind; both are at most 64·63, which
+    # 64 channels of 64 in turn: after k slots, k = 64·t + r, a channel that stands among the last r
+    # slots has q = 64·(64 − r), and another has q = −64·r; both are at most 64·63 in size, which
     # channel 0 reaches first, after slot 1
     yield bytes_of([64] * 64, list(range(64)) * 64), "LARGEST 4032 MOMENT 1 0"
-    # two channels in two blocks: after slot 2,048 the first is half the round ahead
+    # two channels in two blocks: after slot 2,048 the first has q = 4,096·2,048 − 2,048·2,048
     yield bytes_of(table(c0=2048, c1=2048), [0] * 2048 + [1] * 2048), "LARGEST 4194304 MOMENT 2048 0"
 
 
@@ -121,10 +121,10 @@ def refusals():
 
 
 def at_random(rng):
-    """Complete lists, and lists with one byte changed, of random tables."""
-    for _ in range(300):
+    """Complete lists, and lists with one byte changed, of random tables with few or many channels."""
+    for turn in range(320):
         row = [0] * CHANNELS
-        for channel in rng.sample(range(CHANNELS), rng.randint(1, 6)):
+        for channel in rng.sample(range(CHANNELS), rng.randint(1, 6 if turn < 300 else CHANNELS)):
             row[channel] = rng.randint(1, 12)
         list_ = [c for c in range(CHANNELS) for _ in range(row[c])]
         rng.shuffle(list_)

@@ -75,14 +75,18 @@ mod tests {
     }
 
     #[test]
-    fn refuses() -> Result<(), Fail> {
-        check_eq(
-            audit(&AbsoluteDeviation, &[1], &[0]),
-            Err(Refusal::RowLength),
-        )?;
+    fn refuses_a_row() -> Result<(), Fail> {
+        let short = audit(&AbsoluteDeviation, &[1; 63], &[]);
+        check_eq(short, Err(Refusal::RowLength))?;
+        let long = audit(&AbsoluteDeviation, &[1; 65], &[]);
+        check_eq(long, Err(Refusal::RowLength))?;
         check_eq(audited(4097, 0, &[]), Err(Refusal::ReadingsAboveLimit))?;
         check_eq(audited(4096, 1, &[]), Err(Refusal::TotalAboveLimit))?;
-        check_eq(audited(0, 0, &[]), Err(Refusal::NoChannel))?;
+        check_eq(audited(0, 0, &[]), Err(Refusal::NoChannel))
+    }
+
+    #[test]
+    fn refuses_a_list() -> Result<(), Fail> {
         check_eq(audited(2, 1, &[0, 1]), Err(Refusal::ListLength))?;
         check_eq(
             audited(2, 1, &[0, 2, 9]),
@@ -99,10 +103,17 @@ mod tests {
         check_eq(AbsoluteDeviation.cost(3, 0, 2, 1, 1), 1)?;
         check_eq(AbsoluteDeviation.cost(3, 0, 2, 0, 1), 2)?;
         check_eq(AbsoluteDeviation.cost(4096, 63, 4096, 4096, 0), 16_777_216)?;
+        check_eq(AbsoluteDeviation.depth(), 0)
+    }
+
+    #[test]
+    fn forbids_outside_the_domain() -> Result<(), Fail> {
+        check_eq(AbsoluteDeviation.cost(0, 0, 1, 0, 0), TOP)?;
         check_eq(AbsoluteDeviation.cost(4097, 0, 1, 0, 0), TOP)?;
         check_eq(AbsoluteDeviation.cost(3, 64, 2, 1, 1), TOP)?;
+        check_eq(AbsoluteDeviation.cost(3, 0, 0, 0, 1), TOP)?;
+        check_eq(AbsoluteDeviation.cost(3, 0, 4097, 1, 1), TOP)?;
         check_eq(AbsoluteDeviation.cost(3, 0, 2, 3, 1), TOP)?;
-        check_eq(AbsoluteDeviation.cost(3, 0, 2, 1, 4), TOP)?;
-        check_eq(AbsoluteDeviation.depth(), 0)
+        check_eq(AbsoluteDeviation.cost(3, 0, 2, 1, 4), TOP)
     }
 }

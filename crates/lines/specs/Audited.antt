@@ -14,7 +14,7 @@ use Rattle.lines.specs.Text.{field}
 abbrev pub largest-text : Largest → List ℕ
 largest-text r = field (codes "LARGEST ") (r .cost) ++ (field (codes " MOMENT ") (r .slot) ++ (field (codes " ") (r .channel) ++ (10 ∷ [])))
 
--- the slot or the channel that is told after the number
+-- the slot or the channel that stands after the number
 abbrev pub value-text : Refusal → List ℕ
 value-text RowLength = []
 value-text ReadingsAboveLimit = []

@@ -4,7 +4,7 @@ use mathlib.Core.Bool.{Bool, false, cond, _&&_}
 use Prim.Native.Nat.{ℕ, _≤_, max}
 use lib.Dec.{leb}
 
--- the cost of slots S, channel c, readings d, count x and slot k, in this order
+-- the cost of slots S, channel c, readings d, count x and slot k (0 before the first), in this order
 abbrev pub Cost : Type 0
 Cost = ℕ → ℕ → ℕ → ℕ → ℕ → ℕ
 
@@ -28,6 +28,6 @@ Capped f = (S c d x k : ℕ) → f S c d x k ≤ top
 abbrev pub Outside : Cost → Type 0
 Outside f = (S c d x k : ℕ) → inside S c d x k ≡ false → f S c d x k ≡ top
 
--- the valley law: between two counts no count costs more than the dearer of the two
+-- the valley law: between two counts no count costs more than the larger of their costs
 abbrev pub Valley : Cost → Type 0
 Valley f = (S c d k u v w : ℕ) → u ≤ v → v ≤ w → f S c d v k ≤ max (f S c d u k) (f S c d w k)

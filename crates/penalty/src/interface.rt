@@ -14,22 +14,27 @@ pub const TOP: u64 = 1_099_511_627_775;
 
 /// Gives a cost to a channel's count after a slot. Asking changes nothing and never refuses.
 pub trait Penalty {
+    // The meaning of a penalty: the cost of slots, channel, readings, count and slot.
     ghost cost: { Self → Cost };
 
+    // How many layers lie over the bottom, but at most 255.
     ghost depth: { Self → ℕ };
 
+    // No cost is above TOP.
     law capped: { (p : Self) → Capped (cost p) };
 
+    // Outside the domain the cost is TOP.
     law outside: { (p : Self) → Outside (cost p) };
 
+    // Between two counts no count costs more than both.
     law valley: { (p : Self) → Valley (cost p) };
 
     /// What it costs that `channel`, with `readings` in a round of `slots` slots, stands `count`
-    /// times in the first `slot` slots.
+    /// times in the first `slot` slots, 0 before the first slot.
     fn cost(&self, slots: u16, channel: u8, readings: u16, count: u16, slot: u16) -> u64
         ensures { λ r. ⌜ r ≡ cost (now (self .entry)) slots channel readings count slot ⌝ };
 
-    /// How many layers lie over the bottom, and 255 from there on.
+    /// How many layers lie over the bottom, but at most 255.
     fn depth(&self) -> u8
         ensures { λ r. ⌜ r ≡ depth (now (self .entry)) ⌝ };
 }

@@ -1,4 +1,4 @@
--- Which refusal is told: a fault that is there, once every check before it has passed.
+-- Which refusal is reported: a fault that is there, once every check before it has passed.
 use mathlib.Core.Path.{_≡_, refl, sym, _∙_}
 use mathlib.Core.List.{List}
 use mathlib.Core.Logic.{_≢_, ⊎-elim}

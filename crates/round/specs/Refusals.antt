@@ -1,4 +1,4 @@
--- The refusals of a table and a list: their numbers, what each says, and which one is told.
+-- The refusals of a table and a list: their numbers, what each says, and which one is reported.
 use mathlib.Core.Path.{_≡_}
 use mathlib.Core.Bool.{cond}
 use mathlib.Core.List.{List}
@@ -11,7 +11,7 @@ use Rattle.round.specs.Lists.{readings, Channel, times}
 use Rattle.round.specs.declared.refusal.Refusal.{Refusal}
 use Rattle.round.specs.declared.refusal.Refusal.the-variants.{RowLength, ReadingsAboveLimit, TotalAboveLimit, NoChannel, ListLength, NotAChannel, WrongCount}
 
--- the number that is handed back
+-- the number of a refusal
 abbrev pub number : Refusal → ℕ
 number RowLength = 17
 number ReadingsAboveLimit = 2

@@ -16,13 +16,14 @@ use penalty::LIMIT;
 pub struct Readings {
     by_channel: [u16; CHANNELS],
     total: u16,
+    // A number for each channel number, their sum, and the limit on it.
     ghost long: { length «by_channel» ≡ 64 },
     ghost summed: { total ≡ sum «by_channel» },
     ghost few: { total ≤ 4096 },
 }
 
 impl Readings {
-    /// The table that a row gives.
+    /// The table that a row gives, unless it is refused with 17, 2 or 5.
     pub fn from_row(row: &[u16]) -> Result<Readings, Refusal>
         ensures { λ r. ⌜ elim r [
           | Ok table ↦ table .«by_channel» ≡ now (row .entry)
@@ -47,7 +48,7 @@ impl Readings {
         })
     }
 
-    /// D, which is also the number of slots.
+    /// The sum of all readings, which is also the number of slots.
     pub fn total(&self) -> u16
         ensures { λ r. ⌜ r ≡ sum (now (self .entry) .«by_channel») ⌝ }
     {

@@ -1,3 +1,4 @@
+-- The cases that are left get fewer.
 use lib.ListN.{length}
 use Rattle.audit_cases.proofs.main.Given as given
 

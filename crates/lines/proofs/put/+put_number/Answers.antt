@@ -1,3 +1,4 @@
+-- A digit alone, and a digit after those of the tenth.
 use native.Mathlib.Omega.{arith}
 use mathlib.Core.Path.{_≡_, ap}
 use Prim.Native.Nat.{_+_, _/_, _≤_, _<_}

@@ -1,3 +1,4 @@
+-- The part that was copied over.
 use native.Mathlib.Omega.{arith}
 use Rattle.lines.proofs.Puts.{put-part}
 use Rattle.lines.proofs.put.put.Needs as need

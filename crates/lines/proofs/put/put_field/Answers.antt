@@ -1,3 +1,4 @@
+-- A word and then a number, which has at most 20 digits.
 use native.Mathlib.Omega.{arith}
 use Rattle.std.proofs.shelf.Decimals.{length-decimal-le}
 use Rattle.lines.proofs.Puts.{put-then}

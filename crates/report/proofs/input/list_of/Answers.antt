@@ -1,3 +1,4 @@
+-- What lies past the row, also where the input ends inside it.
 use native.Mathlib.Omega.{arith}
 use mathlib.Core.Logic.{⊎-elim}
 use mathlib.Core.Path.{_≡_, sym, ap, _∙_}

@@ -1,3 +1,4 @@
+-- One pair of bytes more, and all pairs.
 use native.Mathlib.Omega.{arith}
 use mathlib.Core.Path.{_≡_, sym, ap, _∙_}
 use mathlib.Core.List.{[], _∷_, _++_}

@@ -1,3 +1,4 @@
+-- The numbers read so far are those of the pairs so far.
 use mathlib.Core.Path.{_≡_}
 use Prim.Native.Nat.{_*_}
 use lib.ListN.{length, take}

@@ -1,3 +1,4 @@
+-- The refusal of a row is that of the row and the list.
 use Rattle.std.proofs.shelf.Results.{err-from-errBy}
 use Rattle.round.proofs.walk.audit.Needs as need
 

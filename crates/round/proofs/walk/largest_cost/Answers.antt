@@ -1,3 +1,4 @@
+-- The moments at 0, one slot more, and all moments.
 use native.Mathlib.Omega.{arith}
 use mathlib.Core.Logic.{⊎-elim}
 use mathlib.Core.Path.{refl}

@@ -1,3 +1,4 @@
+-- The counts so far, and what was found up to the last slot.
 use mathlib.Core.Path.{_≡_}
 use Prim.Native.Nat.{_+_}
 use lib.ListN.{length}

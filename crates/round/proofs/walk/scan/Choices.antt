@@ -1,3 +1,4 @@
+-- What was found up to the last channel of the scan.
 use mathlib.Core.List.{List}
 use Prim.Native.Nat.{ℕ, _≤_}
 use Rattle.std.specs.shelf.Lists.{sum}

@@ -1,3 +1,4 @@
+-- The valley law of the absolute deviation.
 use borrow.Author.Needs.{needs}
 use Rattle.penalty.specs.Absolute.{size}
 use Rattle.penalty.proofs.Bottoms.{bottom-valley, size-valley}

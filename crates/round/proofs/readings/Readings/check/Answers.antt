@@ -1,3 +1,4 @@
+-- The refusals of a list, each once the checks before it have passed.
 use native.Mathlib.Omega.{arith}
 use mathlib.Core.Logic.{_≢_}
 use mathlib.Core.Path.{_≡_, sym, _∙_}

@@ -1,3 +1,4 @@
+-- No channel differs, past the last channel number too.
 use native.Mathlib.Omega.{arith}
 use mathlib.Core.Logic.{⊎-elim}
 use mathlib.Core.Path.{sym, _∙_}

@@ -1,3 +1,4 @@
+-- No channel so far differs.
 use mathlib.Core.Path.{_≡_}
 use Prim.Native.Nat.{ℕ, _<_}
 use lib.ListN.{getD}

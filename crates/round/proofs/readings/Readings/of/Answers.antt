@@ -1,3 +1,4 @@
+-- Past the table there are no readings.
 use borrow.Author.Needs.{needs}
 use native.Mathlib.Omega.{arith}
 use mathlib.Core.Path.{_≡_, sym}

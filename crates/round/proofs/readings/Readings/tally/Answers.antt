@@ -1,3 +1,4 @@
+-- One slot more, the first slot without a channel, and the whole list.
 use borrow.Author.Count.{below-more}
 use native.Mathlib.Omega.{arith}
 use mathlib.Core.Path.{_≡_, refl, ap, _∙_}

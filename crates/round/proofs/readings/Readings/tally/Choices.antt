@@ -1,3 +1,4 @@
+-- The counts so far, and channels only so far.
 use mathlib.Core.Path.{_≡_}
 use Prim.Native.Nat.{ℕ, _<_}
 use lib.ListN.{length, getD}
