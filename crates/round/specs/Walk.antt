@@ -1,5 +1,5 @@
--- What the walk of an audit knows on its way: the counts, and what it has found among the moments behind it.
--- These serve the proofs of its loops; what the audit answers is in Audit.antt.
+-- The invariants of the audit's loops: the counts so far, and the first maximum over the moments visited so far.
+-- They serve the proofs only; what the audit answers is in Audit.antt.
 use mathlib.Core.Path.{_≡_}
 use mathlib.Core.Bool.{cond}
 use mathlib.Core.List.{List}
