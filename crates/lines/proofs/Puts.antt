@@ -19,6 +19,7 @@ put-part old text at k long fits = record {
   rest = drop-putMid at k old text (at + length text) (omega arith) (omega arith) (sym long);
 }
 
+-- one byte that was set
 pub put-byte : (old : List ℕ) (at b : ℕ) → at < length old → Put old at (b ∷ []) (set old at b) (at + 1)
 put-byte old at b fits = record {
   stops = refl;

@@ -1,13 +1,13 @@
 -- The laws of a bottom: what a penalty owes that is given by its costs on the domain.
-use mathlib.Core.Path.{_≡_, refl}
-use mathlib.Core.Bool.{true, false, cond}
-use mathlib.Core.Logic.{inl, inr, ⊎-elim}
+use mathlib.Core.Path.{_≡_}
+use mathlib.Core.Bool.{true}
+use mathlib.Core.Logic.{⊎-elim}
 use Prim.Native.Nat.{ℕ, _*_, _≤_, max}
 use native.Mathlib.Nat.{mul-le-mul-left}
 use native.Mathlib.Omega.{arith}
 use Rattle.std.proofs.shelf.Tests.{cases-bool}
 use Rattle.std.proofs.shelf.Ways.{tells}
-use Rattle.penalty.specs.Cost.{Cost, top, inside, bottom, Valley}
+use Rattle.penalty.specs.Cost.{top, inside, bottom, Valley}
 use Rattle.penalty.specs.Absolute.{size}
 
 -- the domain reaches down from each of its counts

@@ -1,6 +1,4 @@
 // The absolute deviation: the bottom that costs the size of the departure from the even share.
-ghost use mathlib.Core.Path.{_≡_};
-ghost use Prim.Native.Nat.{ℕ};
 ghost use Rattle.penalty.specs.Absolute.{absolute};
 use crate::domain::in_domain;
 use crate::interface::Penalty;

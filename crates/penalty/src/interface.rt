@@ -1,6 +1,6 @@
 // The interface of all penalties: what a moment costs, by the laws that every penalty keeps.
 ghost use mathlib.Core.Path.{_≡_};
-ghost use Prim.Native.Nat.{ℕ, _≤_};
+ghost use Prim.Native.Nat.{ℕ};
 ghost use Rattle.penalty.specs.Cost.{Cost, Capped, Outside, Valley};
 
 /// How many channel numbers there are, 0 to 63.

@@ -3,21 +3,28 @@ use mathlib.Core.Path.{_≡_, refl, sym, ap, _∙_}
 use mathlib.Core.Bool.{false, cond}
 use mathlib.Core.List.{List, [], _∷_}
 use mathlib.Core.Logic.{⊎-elim}
-use Prim.Native.Nat.{ℕ, zero, suc, _+_, _<_, _≤_}
+use Prim.Native.Nat.{ℕ, suc, _+_, _<_, _≤_}
 use native.Mathlib.Omega.{arith}
 use lib.Dec.{eqb}
 use lib.ListN.{length, getD, take, set, replicate}
 use Rattle.std.specs.shelf.Lists.{sum}
 use Rattle.std.proofs.shelf.Lists.{getD-replicate, getD-past, getD-set-same, getD-set-other, length-replicate, length-take}
-use Rattle.std.proofs.shelf.Sums.{countBy-more-yes, countBy-more-no, countBy-le-length, sumBy-cons, sumBy-take-le}
+use Rattle.std.proofs.shelf.Sums.{countBy-more-yes, countBy-more-no, countBy-le-length, getD-le-sumBy, sumBy-cons, sumBy-take-le}
 use Rattle.std.proofs.shelf.Tests.{cases-eq, cases-lt, eq-eqb, ne-eqb}
 use Rattle.round.specs.Lists.{readings, Channel, Complete, times, count}
 use Rattle.round.specs.Walk.{Counted}
 
+-- only the numbers of the table are channels
+pub channel-below : (t : List ℕ) (c : ℕ) → Channel t c → c < length t
+channel-below t c h =
+    ⊎-elim (λ below. below) (λ past. let none = getD-past t c 0 past in absurd (omega arith)) (cases-lt c (length t))
+
+-- before the first slot every count is 0
 pub counted-none : (n : ℕ) (l : List ℕ) → Counted (replicate n 0) l 0
 counted-none n l c =
     ⊎-elim (λ h. getD-replicate n c 0 0 h) (λ h. getD-past (replicate n 0) c 0 (simp length-replicate h)) (cases-lt c n)
 
+-- one slot more, in which b stands
 pub counted-more : (counts l : List ℕ) (k b : ℕ) → k < length l → getD l k 0 ≡ b → b < length counts →
     Counted counts l k → Counted (set counts b (getD counts b 0 + 1)) l (k + 1)
 counted-more counts l k b h here room old c =
@@ -34,8 +41,16 @@ counted-more counts l k b h here room old c =
     (cases-eq c b)
 
 -- a count is at most the number of slots
-pub count-le : (l : List ℕ) (c k : ℕ) → count l c k ≤ k
+count-le : (l : List ℕ) (c k : ℕ) → count l c k ≤ k
 count-le l c k = let n = countBy-le-length (eqb c) (take k l) in omega (arith, length-take k l)
+
+-- what count_slot requires: a place for the channel, and a count that still fits
+pub count-room : (t counts l : List ℕ) (k b : ℕ) → length t ≡ 64 → Channel t b → k < 4096 → Counted counts l k → (b < 64) × (getD counts b 0 < 4096)
+count-room t counts l k b long here few old =
+    let below = channel-below t b here in
+    let was = old b in
+    let le = count-le l b k in
+    (omega arith, omega arith)
 
 -- what is no channel does not stand in a list of channels
 pub absent : (t l : List ℕ) → ((i : ℕ) → i < length l → Channel t (getD l i 0)) → (c : ℕ) → readings t c ≡ 0 → times c l ≡ 0
@@ -59,7 +74,15 @@ complete-known t l whole i h =
 pub readings-bound : (t : List ℕ) (n : ℕ) → ((c : ℕ) → c < length t → readings t c ≤ n) → (c : ℕ) → readings t c ≤ n
 readings-bound t n h c = ⊎-elim (λ below. h c below) (λ past. rw (getD-past t c 0 past) (omega arith)) (cases-lt c (length t))
 
--- only the numbers of the table are channels
-pub channel-below : (t : List ℕ) (c : ℕ) → Channel t c → c < length t
-channel-below t c h =
-    ⊎-elim (λ below. below) (λ past. let none = getD-past t c 0 past in absurd (omega arith)) (cases-lt c (length t))
+-- a table with readings has a channel
+pub some-channel : (t : List ℕ) → 0 < sum t → (c : ℕ) × Channel t c
+some-channel [] h = absurd (omega arith)
+some-channel (x ∷ xs) h =
+    let step = sumBy-cons (λ y. y) x xs in
+    ⊎-elim (λ p. (0, p)) (λ z. let rest = some-channel xs (omega arith) in (suc (rest .0), rest .1)) (cases-lt 0 x)
+
+-- a table without readings has none
+pub none-channel : (t : List ℕ) → sum t ≡ 0 → (c : ℕ) → Channel t c → ⊥
+none-channel t none c here =
+    let le = readings-bound t 0 (λ b below. let part = getD-le-sumBy (λ x. x) t b 0 below in omega arith) c in
+    omega arith

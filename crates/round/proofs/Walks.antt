@@ -1,9 +1,9 @@
 -- A walk over pairs, by slot and then by channel, that keeps the largest value and the first pair that has it.
 use mathlib.Core.Path.{_≡_, refl, sym, ap, subst, _∙_}
-use mathlib.Core.Bool.{true, false, cond}
-use mathlib.Core.List.{List, [], _∷_}
+use mathlib.Core.Bool.{true}
+use mathlib.Core.List.{List}
 use mathlib.Core.Logic.{_⊎_, inl, inr, ⊎-elim}
-use Prim.Native.Nat.{ℕ, zero, suc, _+_, _<_, _≤_}
+use Prim.Native.Nat.{ℕ, _+_, _<_, _≤_}
 use native.Mathlib.Omega.{arith}
 use lib.Dec.{ltb}
 use lib.ListN.{length}
@@ -11,15 +11,15 @@ use Rattle.std.specs.declared.option.Option.{Option}
 use Rattle.std.specs.declared.option.Option.the-variants.{Some, None}
 use Rattle.std.specs.Options.{isSome}
 use Rattle.std.specs.shelf.Lists.{sum}
-use Rattle.std.proofs.shelf.Sums.{sumBy-cons}
 use Rattle.std.proofs.shelf.Tests.{cases-bool, cases-lt, ltb-true, ltb-false}
 use Rattle.penalty.specs.Cost.{Cost}
 use Rattle.round.specs.Audit.{FirstLargest}
 use Rattle.round.specs.Walk.{FirstMaximum, Found, Past, larger-of}
-use Rattle.round.specs.Lists.{Channel, Moment, Before, cost-at}
+use Rattle.round.specs.Lists.{Moment, Before, cost-at}
 use Rattle.round.proofs.Counts.{channel-below}
 use Rattle.round.specs.declared.largest.Largest.{Largest}
 
+-- the order of moments is transitive
 before-trans : (i a j b k c : ℕ) → Before i a j b → Before j b k c → Before i a k c
 before-trans i a j b k c p q = grind arith
 
@@ -27,6 +27,7 @@ before-trans i a j b k c p q = grind arith
 before-more : (j b k c : ℕ) → Before j b k (c + 1) → Before j b k c ⊎ ((j ≡ k) × (b ≡ c))
 before-more j b k c p = grind arith
 
+-- the pairs before this one are before the next one
 before-less : (j b k c : ℕ) → Before j b k c → Before j b k (c + 1)
 before-less j b k c p = grind arith
 
@@ -42,9 +43,11 @@ module _ (g : ℕ → ℕ → ℕ) where
   }
 
   module _ (M : ℕ → ℕ → Type 0) (k c : ℕ) where
+    -- what is in M at an equal pair is in M here
     here-from : (j b : ℕ) → (j ≡ k) × (b ≡ c) → M j b → M k c
     here-from j b e m = subst (λ (x : ℕ). M x c) (e .0) (subst (λ (y : ℕ). M j y) (e .1) m)
 
+    -- g has the same value at an equal pair
     value-from : (j b : ℕ) → (j ≡ k) × (b ≡ c) → g j b ≡ g k c
     value-from j b e = ap (λ x. g x b) (e .0) ∙ ap (g k) (e .1)
 
@@ -73,6 +76,7 @@ module _ (g : ℕ → ℕ → ℕ) where
         first = λ j b m p. h .first j b (m .0, before-trans j b (r .slot) (r .channel) k c p (h .moment .1)) p;
       }
 
+      -- a pair in M is taken into account
       pub found-more : (o : Option Largest) → Found g (λ j b. M j b × Before j b k c) o → Found g (λ j b. M j b × Before j b k (c + 1)) (Some (larger-of o (record { cost = n; slot = k; channel = c })))
       found-more None h = takes (λ j b m p. absurd (h j b (m, p)))
       found-more (Some r) h =
@@ -97,13 +101,6 @@ past-slot g t long k =
 -- after the last slot every moment is past
 pub past-all : (g : ℕ → ℕ → ℕ) (t : List ℕ) (k : ℕ) → k ≡ sum t → (o : Option Largest) → Found g (Past t (k + 1) 0) o → Found g (Moment t) o
 past-all g t k end = found-same g (λ j b m. m .0) (λ j b m. (m, inl (omega arith)))
-
--- a table with readings has a channel
-pub some-channel : (t : List ℕ) → 0 < sum t → (c : ℕ) × Channel t c
-some-channel [] h = absurd (omega arith)
-some-channel (x ∷ xs) h =
-    let step = sumBy-cons (λ y. y) x xs in
-    ⊎-elim (λ p. (0, p)) (λ z. let rest = some-channel xs (omega arith) in (suc (rest .0), rest .1)) (cases-lt 0 x)
 
 -- where there is a pair, something is found
 pub found-some : (g : ℕ → ℕ → ℕ) (M : ℕ → ℕ → Type 0) (o : Option Largest) → Found g M o → (j b : ℕ) → M j b → isSome o ≡ true

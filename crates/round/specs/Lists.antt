@@ -20,7 +20,7 @@ Channel t c = 0 < readings t c
 -- a table has 64 numbers, a channel, and at most 4096 readings
 pub record Sound (t : List ℕ) : Type 0 where
   pub long : length t ≡ 64
-  pub some : 0 < sum t
+  pub some : (c : ℕ) × Channel t c
   pub few : sum t ≤ 4096
 
 -- how often c stands in a list

@@ -36,7 +36,7 @@ abbrev pub Fault : List ℕ → List ℕ → Refusal → Type 0
 Fault t l RowLength = length t ≢ 64
 Fault t l ReadingsAboveLimit = (c : ℕ) × (4096 < readings t c)
 Fault t l TotalAboveLimit = 4096 < sum t
-Fault t l NoChannel = sum t ≡ 0
+Fault t l NoChannel = (c : ℕ) → Channel t c → ⊥
 Fault t l ListLength = length l ≢ sum t
 Fault t l (NotAChannel slot) = (i : ℕ) × (slot ≡ i + 1) × (i < length l) × (readings t (getD l i 0) ≡ 0)
 Fault t l (WrongCount channel) = Channel t channel × (times channel l ≢ readings t channel)

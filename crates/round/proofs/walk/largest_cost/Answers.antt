@@ -6,8 +6,8 @@ use Prim.Native.Nat.{_+_}
 use lib.ListN.{getD}
 use Rattle.round.specs.Lists.{Moment}
 use Rattle.round.specs.Walk.{Counted}
-use Rattle.round.proofs.Counts.{counted-none, counted-more, count-le, channel-below, complete-known}
-use Rattle.round.proofs.Walks.{first-largest, found-at, found-some, past-all, some-channel}
+use Rattle.round.proofs.Counts.{counted-none, counted-more, count-room, channel-below, complete-known}
+use Rattle.round.proofs.Walks.{first-largest, found-at, found-some, past-all}
 use Rattle.round.proofs.walk.largest_cost.Needs as need
 
 pub loop-i-holds : need.loop-i-holds
@@ -19,12 +19,9 @@ loop-i-holds g c =
 pub count-slot-requires : need.count-slot-requires
 count-slot-requires g c κs =
     let list = c .args .list .now in
-    let channel = getD list (c .loop-i .i) 0 in
-    let known = complete-known (c .args .readings .now .«by_channel») list (c .pre .1) (c .loop-i .i) (c .loop-i-test .taken) in
-    let below = channel-below (c .args .readings .now .«by_channel») channel known in
-    let old = c .loop-i .inv .1 channel in
-    let few = count-le list channel (c .loop-i .i) in
-    (omega arith, omega arith)
+    let t = c .args .readings .now .«by_channel» in
+    let i = c .loop-i .i in
+    count-room t (c .loop-i .counts) list i (getD list i 0) (omega arith) (complete-known t list (c .pre .1) i (c .loop-i-test .taken)) (omega arith) (c .loop-i .inv .1)
 
 pub loop-i-again : need.loop-i-again
 loop-i-again g c =
@@ -42,7 +39,7 @@ loop-i-again g c =
 pub unwrap-requires : need.unwrap-requires
 unwrap-requires g c κs =
     let t = c .args .readings .now .«by_channel» in
-    let some = some-channel t (c .pre .0 .some) in
+    let some = c .pre .0 .some in
     let all = past-all _ t (c .loop-i .i) (omega arith) (c .loop-i .found) (c .loop-i .inv .2) in
     found-some _ (Moment t) (c .loop-i .found) all 0 (some .0) (omega arith, some .1)
 

@@ -1,7 +1,6 @@
 -- One channel more, and the end of the channels.
 use native.Mathlib.Omega.{arith}
 use mathlib.Core.Path.{_≡_, ap, _∙_}
-use Prim.Native.Nat.{ℕ}
 use Rattle.std.specs.shelf.Lists.{sum}
 use Rattle.round.specs.Lists.{Moment, readings, cost-at}
 use Rattle.round.proofs.Walks.{found-skip, found-more, past-slot}

@@ -1,9 +1,9 @@
--- The refusals of a list, each once the checks before it have passed.
+-- The refusals of a list, each once the checks before it have passed, and what a list that passes them all is.
 use native.Mathlib.Omega.{arith}
 use mathlib.Core.Logic.{_≢_}
-use mathlib.Core.Path.{_≡_, sym, _∙_}
-use Prim.Native.Nat.{_<_}
+use mathlib.Core.Path.{sym, _∙_}
 use Rattle.round.specs.Lists.{times, readings}
+use Rattle.round.proofs.Counts.{some-channel}
 use Rattle.round.proofs.Faults.{no-channel, wrong-length, wrong-count}
 use Rattle.round.proofs.readings.Readings.check.Needs as need
 
@@ -25,3 +25,11 @@ returns-in-Some c =
     let other : times channel list ≢ readings table channel = λ e. found .0 (told .1 channel ∙ e) in
     wrong-count table list (omega arith) (omega arith) (omega arith) (omega arith) (told .2) channel other
     (λ b h. sym (told .1 b) ∙ found .1 b h)
+
+pub returns-in-None : need.returns-in-None
+returns-in-None c =
+    let table = c .args .self .now .«by_channel» in
+    let told = c .in-Continue-counts .ensures tt in (
+      record { long = omega arith; some = some-channel table (omega arith); few = omega arith },
+      record { full = omega arith; each = λ b. sym (told .1 b) ∙ c .in-None .ensures tt b },
+    )

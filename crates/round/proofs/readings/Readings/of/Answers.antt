@@ -1,9 +1,6 @@
 -- Past the table there are no readings.
-use borrow.Author.Needs.{needs}
 use native.Mathlib.Omega.{arith}
-use mathlib.Core.Path.{_≡_, sym}
-use Prim.Native.Nat.{ℕ, _≤_}
-use lib.ListN.{length}
+use mathlib.Core.Path.{sym}
 use Rattle.std.proofs.shelf.Lists.{getD-past}
 use Rattle.round.proofs.readings.Readings.of.Needs as need
 

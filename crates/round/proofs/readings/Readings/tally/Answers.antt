@@ -2,10 +2,10 @@
 use borrow.Author.Count.{below-more}
 use native.Mathlib.Omega.{arith}
 use mathlib.Core.Path.{_≡_, refl, ap, _∙_}
-use lib.ListN.{length, getD, take}
+use lib.ListN.{getD, take}
 use Rattle.std.proofs.shelf.Lists.{take-all}
 use Rattle.round.specs.Lists.{times}
-use Rattle.round.proofs.Counts.{counted-none, counted-more, count-le, channel-below}
+use Rattle.round.proofs.Counts.{counted-none, counted-more, count-room, channel-below}
 use Rattle.round.proofs.Faults.{not-a-channel}
 use Rattle.round.proofs.readings.Readings.tally.Needs as need
 
@@ -21,11 +21,8 @@ returns-then-of-eq0 c =
 
 pub count-slot-requires : need.count-slot-requires
 count-slot-requires c κs =
-    let channel = getD (c .args .list .now) (c .loop-i .i) 0 in
-    let below = channel-below (c .args .self .now .«by_channel») channel (omega arith) in
-    let old = c .loop-i .inv .1 channel in
-    let few = count-le (c .args .list .now) channel (c .loop-i .i) in
-    (omega arith, omega arith)
+    count-room (c .args .self .now .«by_channel») (c .loop-i .counts) (c .args .list .now) (c .loop-i .i) (getD (c .args .list .now) (c .loop-i .i) 0)
+    (omega arith) (omega arith) (omega arith) (c .loop-i .inv .1)
 
 pub loop-i-again : need.loop-i-again
 loop-i-again c =
