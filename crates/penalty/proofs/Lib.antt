@@ -1,1 +1,4 @@
 pub mod Bottoms
+pub mod Maps
+pub mod Squares
+pub mod Tables

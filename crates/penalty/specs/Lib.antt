@@ -1,2 +1,6 @@
 pub mod Absolute
 pub mod Cost
+pub mod Deviation
+pub mod Layers
+pub mod Settings
+pub mod TwoSided

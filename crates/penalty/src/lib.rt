@@ -1,12 +1,38 @@
 // What a moment of a scan list costs: the interface of all penalties, and the penalties themselves.
 mod absolute;
+mod banded;
 mod domain;
 mod interface;
+mod root_table;
+mod settings;
+mod stopped;
+mod threshold;
+mod two_sided;
+mod weighted;
+mod weights;
 
 pub use absolute::AbsoluteDeviation;
 pub use absolute::AbsolutePenalty;
+pub use banded::Banded;
+pub use banded::BandedPenalty;
 pub use domain::in_domain;
 pub use interface::CHANNELS;
 pub use interface::LIMIT;
 pub use interface::Penalty;
 pub use interface::TOP;
+pub use root_table::roots;
+pub use settings::SettingRefusal;
+pub use settings::SettingRefusalDebug;
+pub use settings::SettingRefusalPartialEq;
+pub use stopped::Stopped;
+pub use stopped::StoppedPenalty;
+pub use threshold::LARGEST_SIZE;
+pub use threshold::Threshold;
+pub use threshold::ThresholdDebug;
+pub use threshold::ThresholdPartialEq;
+pub use two_sided::TwoSided;
+pub use two_sided::TwoSidedPenalty;
+pub use weighted::Weighted;
+pub use weighted::WeightedPenalty;
+pub use weights::LARGEST_WEIGHT;
+pub use weights::Weights;

@@ -1,6 +1,6 @@
 -- The valley law of the absolute deviation.
 use borrow.Author.Needs.{needs}
-use Rattle.penalty.specs.Absolute.{size}
+use Rattle.penalty.specs.Deviation.{size}
 use Rattle.penalty.proofs.Bottoms.{bottom-valley, size-valley}
 use Rattle.penalty.proofs.absolute.AbsolutePenalty.the-impl.Needs as need
 

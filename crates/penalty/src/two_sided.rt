@@ -1,0 +1,43 @@
+// The two-sided bottom: being behind the even share costs by another scale than being ahead of it.
+ghost use mathlib.Core.Path.{_≡_};
+ghost use Prim.Native.Nat.{_*_, _/_, _≤_, min};
+ghost use Rattle.penalty.specs.TwoSided.{two-sided};
+use crate::domain::in_domain;
+use crate::interface::Penalty;
+use crate::interface::TOP;
+use crate::root_table::roots;
+
+/// 40 for each step where the count is behind its even share, the root table where it is not.
+#[derive(Clone, Copy, Debug)]
+pub struct TwoSided;
+
+pub impl Penalty for TwoSided as TwoSidedPenalty {
+    ghost cost = { λ _. two-sided };
+
+    ghost depth = { λ _. 0 };
+
+    fn cost(&self, slots: u16, channel: u8, readings: u16, count: u16, slot: u16) -> u64 {
+        if !in_domain(slots, channel, readings, count, slot) {
+            return TOP;
+        }
+        let taken = u64::from(slots) * u64::from(count);
+        let due = u64::from(slot) * u64::from(readings);
+        let step = step(taken.abs_diff(due), slots);
+        if taken < due {
+            return 40 * u64::from(step);
+        }
+        u64::from(roots()[usize::from(step)])
+    }
+
+    fn depth(&self) -> u8 {
+        0
+    }
+}
+
+// The step of a size of q: its eighths of a slot's share, rounded down, but at most 255.
+fn step(size: u64, slots: u16) -> u8
+    requires { ⌜ 1 ≤ slots × size ≤ 4_294_967_295 ⌝ }
+    ensures { λ r. ⌜ r ≡ min 255 (8 * size / slots) ⌝ }
+{
+    (8 * size / u64::from(slots)).min(255) as u8
+}
