@@ -1,4 +1,6 @@
 pub mod Bottoms
 pub mod Maps
+pub mod Rising
+pub mod Scales
 pub mod Squares
 pub mod Tables

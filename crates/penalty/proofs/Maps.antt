@@ -1,53 +1,49 @@
--- The laws of the layers, from those of the penalty below: a map of costs that never falls and keeps the forbidden cost, and a stop.
+-- The laws of the layers, from those of the penalty below: maps of costs that never fall and keep the forbidden cost, and stops.
 use mathlib.Core.Path.{_≡_, _∙_, ap, refl, subst}
-use mathlib.Core.Bool.{true, false}
-use mathlib.Core.List.{List}
 use mathlib.Core.Logic.{⊎-elim}
-use Prim.Native.Nat.{ℕ, _-_, _*_, _≤_, _<_, min, max}
-use native.Mathlib.Nat.{mul-le-mul-left, le-refl, le-trans}
+use Prim.Native.Nat.{ℕ, _-_, _*_, _≤_, _<_, min}
+use native.Mathlib.Nat.{mul-le-mul-left, le-refl}
 use native.Mathlib.Omega.{arith}
 use lib.Dec.{ltb}
-use lib.ListN.{getD}
 use Rattle.std.proofs.shelf.Tests.{cases-lt, lt-ltb, le-ltb}
 use Rattle.penalty.specs.Cost.{Cost, top, Capped, Outside, Valley}
 use Rattle.penalty.specs.Deviation.{ahead}
-use Rattle.penalty.proofs.Bottoms.{either}
 use Rattle.penalty.specs.Layers.{keep-top, weigh, relax, stopped}
+use Rattle.penalty.proofs.Rising.{Rising, either-most}
 
 -- a map of costs that never falls and keeps the forbidden cost
 pub record CostMap (m : ℕ → ℕ) : Type 0 where
-  pub rising : (a b : ℕ) → a ≤ b → m a ≤ m b
+  pub rising : Rising m
   pub keeps : m top ≡ top
 
 -- the cost of f, through the map of its channel
 abbrev pub mapped : (ℕ → ℕ → ℕ) → Cost → Cost
 mapped m f S c d x k = m c (f S c d x k)
 
-module _ (m : ℕ → ℕ → ℕ) (map : (c : ℕ) → CostMap (m c)) (f : Cost) where
-  -- such a map keeps costs at most the forbidden one
+module _ {m : ℕ → ℕ → ℕ} {f : Cost} (map : (c : ℕ) → CostMap (m c)) where
+  -- such maps keep every cost at most the forbidden one
   pub map-capped : Capped f → Capped (mapped m f)
   map-capped h S c d x k = subst (λ (n : ℕ). m c (f S c d x k) ≤ n) (map c .keeps) (map c .rising (f S c d x k) top (h S c d x k))
 
-  -- such a map keeps what is outside the domain forbidden
+  -- such maps keep the forbidden cost outside the domain
   pub map-outside : Outside f → Outside (mapped m f)
   map-outside h S c d x k t = ap (m c) (h S c d x k t) ∙ map c .keeps
 
-  -- such a map keeps a valley
+  -- such maps keep a valley
   pub map-valley : Valley f → Valley (mapped m f)
   map-valley h S c d k u v w l r =
       let mid = h S c d k u v w l r in
-      let rise = map c .rising in
       ⊎-elim
       (λ (b : f S c d u k < f S c d w k).
-      let s = rise (f S c d v k) (f S c d w k) (omega (arith, mid, b)) in
+      let s = map c .rising (f S c d v k) (f S c d w k) (omega (arith, mid, b)) in
       omega (arith, s))
       (λ (b : f S c d w k ≤ f S c d u k).
-      let s = rise (f S c d v k) (f S c d u k) (omega (arith, mid, b)) in
+      let s = map c .rising (f S c d v k) (f S c d u k) (omega (arith, mid, b)) in
       omega (arith, s))
       (cases-lt (f S c d u k) (f S c d w k))
 
--- a map that never falls and goes nowhere above the forbidden cost, with the forbidden cost kept
-keep-map : (m : ℕ → ℕ) → ((a b : ℕ) → a ≤ b → m a ≤ m b) → ((n : ℕ) → n ≤ top → m n ≤ top) → CostMap (keep-top m)
+-- what never falls and makes no cost larger than the forbidden one is such a map, once the forbidden cost is kept
+keep-map : (m : ℕ → ℕ) → Rising m → ((n : ℕ) → n ≤ top → m n ≤ top) → CostMap (keep-top m)
 keep-map m rising capped = record {
   rising = λ a b l.
       ⊎-elim
@@ -69,20 +65,21 @@ weigh-map w = keep-map (λ n. min (w * n) (top - 1)) (λ a b l. let p = mul-le-m
 pub relax-map : (t : ℕ) → CostMap (relax t)
 relax-map t = keep-map (λ n. n - t) (λ a b l. omega (arith, l)) (λ n h. omega (arith, h))
 
--- a stop keeps costs at most the forbidden one
-stop-capped : (e : ℕ) (f : Cost) → Capped f → Capped (stopped e f)
-stop-capped e f capped S c d x k = either (ltb e (ahead S d x k)) (le-refl top) (capped S c d x k)
+module _ (e : ℕ) {f : Cost} (capped : Capped f) where
+  -- a stop keeps every cost at most the forbidden one
+  pub stop-capped : Capped (stopped e f)
+  stop-capped S c d x k = either-most (ltb e (ahead S d x k)) (le-refl top) (capped S c d x k)
 
--- a stop keeps a valley
-pub stop-valley : (e : ℕ) (f : Cost) → Capped f → Valley f → Valley (stopped e f)
-stop-valley e f capped valley S c d k u v w l r =
-    let left : S * u ≤ S * v = mul-le-mul-left S l in
-    let right : S * v ≤ S * w = mul-le-mul-left S r in
-    ⊎-elim
-    (λ (b : e < ahead S d w k).
-    let top-above = stop-capped e f capped S c d v k in
-    rw (lt-ltb e (ahead S d w k) b) (omega (arith, top-above)))
-    (λ (b : ahead S d w k ≤ e).
-    rw (le-ltb e (ahead S d w k) b, le-ltb e (ahead S d v k) (omega (arith, right, b)), le-ltb e (ahead S d u k) (omega (arith, left, right, b)))
-    (valley S c d k u v w l r))
-    (cases-lt e (ahead S d w k))
+  -- a stop keeps a valley: where a count is forbidden, so is every greater one
+  pub stop-valley : Valley f → Valley (stopped e f)
+  stop-valley valley S c d k u v w l r =
+      let left : S * u ≤ S * v = mul-le-mul-left S l in
+      let right : S * v ≤ S * w = mul-le-mul-left S r in
+      ⊎-elim
+      (λ (b : e < ahead S d w k).
+      let h = stop-capped S c d v k in
+      rw (lt-ltb e (ahead S d w k) b) (omega (arith, h)))
+      (λ (b : ahead S d w k ≤ e).
+      rw (le-ltb e (ahead S d w k) b, le-ltb e (ahead S d v k) (omega (arith, right, b)), le-ltb e (ahead S d u k) (omega (arith, left, right, b)))
+      (valley S c d k u v w l r))
+      (cases-lt e (ahead S d w k))

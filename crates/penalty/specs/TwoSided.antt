@@ -1,4 +1,4 @@
--- The two-sided bottom: the size of q in eighths of a slot, and a scale of costs for each of its sides.
+-- The two-sided bottom: the size of q in steps, and a scale of costs for each of its two sides.
 use mathlib.Core.Path.{_≡_}
 use mathlib.Core.Bool.{Bool, cond}
 use mathlib.Core.List.{List}
@@ -23,9 +23,9 @@ pub record RootTable (table : List ℕ) : Type 0 where
   pub rule : (s : ℕ) → s < 256 → getD table s 0 ≡ root s
   pub rising : (s t : ℕ) → s ≤ t → t < 256 → getD table s 0 ≤ getD table t 0
 
--- the step: eight times the size of q in a slot's share, rounded down, but at most 255
+-- the step: how many eighths of a reading the count is from its even share, rounded down, but at most 255
 abbrev pub step : ℕ → ℕ → ℕ → ℕ → ℕ
-step S d x k = min 255 (8 * size S d x k / S)
+step S d x k = min 255 ((8 * size S d x k) / S)
 
 -- a bottom with two scales over the step: one where q is below zero, one where it is not
 abbrev pub sided : (ℕ → ℕ) → (ℕ → ℕ) → Cost

@@ -1,5 +1,6 @@
 // The absolute deviation: the bottom that costs the size of the departure from the even share.
 ghost use Rattle.penalty.specs.Absolute.{absolute};
+use crate::deviation::deviation_of;
 use crate::domain::in_domain;
 use crate::interface::Penalty;
 use crate::interface::TOP;
@@ -17,9 +18,8 @@ pub impl Penalty for AbsoluteDeviation as AbsolutePenalty {
         if !in_domain(slots, channel, readings, count, slot) {
             return TOP;
         }
-        let taken = u64::from(slots) * u64::from(count);
-        let due = u64::from(slot) * u64::from(readings);
-        taken.abs_diff(due)
+        let q = deviation_of(slots, readings, count, slot);
+        u64::from(q.ahead) + u64::from(q.behind)
     }
 
     fn depth(&self) -> u8 {

@@ -1,6 +1,7 @@
 // What a moment of a scan list costs: the interface of all penalties, and the penalties themselves.
 mod absolute;
 mod banded;
+mod deviation;
 mod domain;
 mod interface;
 mod root_table;

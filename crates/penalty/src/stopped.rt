@@ -1,6 +1,7 @@
 // The layer of a stop: a count too far ahead of its even share is forbidden.
 ghost use mathlib.Core.Path.{_≡_};
 ghost use Rattle.penalty.specs.Layers.{stopped, deeper};
+use crate::deviation::deviation_of;
 use crate::interface::Penalty;
 use crate::interface::TOP;
 use crate::threshold::Threshold;
@@ -27,9 +28,8 @@ pub impl<P: Penalty> Penalty for Stopped<P> as StoppedPenalty {
     ghost depth = { λ p. deeper (P·Penalty .depth (p .below)) };
 
     fn cost(&self, slots: u16, channel: u8, readings: u16, count: u16, slot: u16) -> u64 {
-        let taken = u64::from(slots) * u64::from(count);
-        let due = u64::from(slot) * u64::from(readings);
-        if taken > due + u64::from(self.limit.value()) {
+        let q = deviation_of(slots, readings, count, slot);
+        if q.ahead > self.limit.value() {
             return TOP;
         }
         self.below.cost(slots, channel, readings, count, slot)

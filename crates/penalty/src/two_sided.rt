@@ -2,6 +2,7 @@
 ghost use mathlib.Core.Path.{_≡_};
 ghost use Prim.Native.Nat.{_*_, _/_, _≤_, min};
 ghost use Rattle.penalty.specs.TwoSided.{two-sided};
+use crate::deviation::deviation_of;
 use crate::domain::in_domain;
 use crate::interface::Penalty;
 use crate::interface::TOP;
@@ -20,13 +21,11 @@ pub impl Penalty for TwoSided as TwoSidedPenalty {
         if !in_domain(slots, channel, readings, count, slot) {
             return TOP;
         }
-        let taken = u64::from(slots) * u64::from(count);
-        let due = u64::from(slot) * u64::from(readings);
-        let step = step(taken.abs_diff(due), slots);
-        if taken < due {
-            return 40 * u64::from(step);
+        let q = deviation_of(slots, readings, count, slot);
+        if q.behind > 0 {
+            return 40 * u64::from(step(q.behind, slots));
         }
-        u64::from(roots()[usize::from(step)])
+        u64::from(roots()[usize::from(step(q.ahead, slots))])
     }
 
     fn depth(&self) -> u8 {
@@ -34,10 +33,10 @@ pub impl Penalty for TwoSided as TwoSidedPenalty {
     }
 }
 
-// The step of a size of q: its eighths of a slot's share, rounded down, but at most 255.
-fn step(size: u64, slots: u16) -> u8
-    requires { ⌜ 1 ≤ slots × size ≤ 4_294_967_295 ⌝ }
-    ensures { λ r. ⌜ r ≡ min 255 (8 * size / slots) ⌝ }
+// The step of a size of q: how many eighths of a reading it is, rounded down, but at most 255.
+fn step(size: u32, slots: u16) -> u8
+    requires { ⌜ 1 ≤ slots ⌝ }
+    ensures { λ r. ⌜ r ≡ min 255 ((8 * size) / slots) ⌝ }
 {
-    (8 * size / u64::from(slots)).min(255) as u8
+    (8 * u64::from(size) / u64::from(slots)).min(255) as u8
 }

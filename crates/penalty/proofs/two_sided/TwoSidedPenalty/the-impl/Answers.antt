@@ -4,7 +4,7 @@ use native.Mathlib.Nat.{mul-le-mul-left}
 use native.Mathlib.Omega.{arith}
 use Rattle.penalty.specs.Cost.{top}
 use Rattle.penalty.specs.TwoSided.{root}
-use Rattle.penalty.proofs.Bottoms.{sided-capped, sided-valley}
+use Rattle.penalty.proofs.Scales.{sided-capped, sided-valley}
 use Rattle.penalty.proofs.Squares.{root-rising, root-small}
 use Rattle.penalty.proofs.two_sided.TwoSidedPenalty.the-impl.Needs as need
 

@@ -5,4 +5,4 @@ use Rattle.penalty.proofs.Tables.{replicate-within}
 use Rattle.penalty.proofs.weights.Weights.new.Needs as need
 
 pub ghost-result : need.ghost-result
-ghost-result c = (refl, (replicate-within 64 1 1000 (omega arith), tt))
+ghost-result c = (refl, (replicate-within 64 _ 1000 (omega arith), tt))
