@@ -1,11 +1,11 @@
-// The layer of a band: a cost within the tolerance is none, and a larger one falls by it.
+// The layer band: each cost falls by the tolerance.
 ghost use mathlib.Core.Path.{_≡_};
 ghost use Rattle.penalty.specs.Layers.{banded, deeper};
 use crate::interface::Penalty;
 use crate::interface::TOP;
 use crate::threshold::Threshold;
 
-/// A penalty whose costs fall by a tolerance.
+/// A penalty whose costs below TOP fall by a tolerance, but not below 0.
 #[derive(Clone, Copy, Drop)]
 pub struct Banded<P> {
     below: P,

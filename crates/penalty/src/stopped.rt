@@ -1,4 +1,4 @@
-// The layer of a stop: a count too far ahead of its even share is forbidden.
+// The layer stop: a count too far ahead of its even share is forbidden.
 ghost use mathlib.Core.Path.{_≡_};
 ghost use Rattle.penalty.specs.Layers.{stopped, deeper};
 use crate::deviation::deviation_of;

@@ -12,7 +12,7 @@ pub const LARGEST_SIZE: u32 = 16_777_216;
 #[derive(Clone, Copy, PartialEq, Eq, Debug)]
 pub struct Threshold {
     value: u32,
-    ghost few: { value ≤ 16777216 },
+    ghost within: { value ≤ 16777216 },
 }
 
 impl Threshold {

@@ -1,11 +1,11 @@
-// The layer of weights: a cost counts as often as the weight of its channel says.
+// The layer weights: each cost times the weight of its channel.
 ghost use mathlib.Core.Path.{_≡_};
 ghost use Rattle.penalty.specs.Layers.{weighted, deeper};
 use crate::interface::Penalty;
 use crate::interface::TOP;
 use crate::weights::Weights;
 
-/// A penalty under weights.
+/// A penalty whose costs below TOP are multiplied by the weight of the channel, up to TOP - 1.
 #[derive(Clone, Copy, Drop)]
 pub struct Weighted<P> {
     below: P,

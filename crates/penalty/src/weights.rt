@@ -14,6 +14,7 @@ pub const LARGEST_WEIGHT: u16 = 1_000;
 #[derive(Clone, Copy)]
 pub struct Weights {
     by_channel: [u16; CHANNELS],
+    // A weight for each channel number, and none above 1,000.
     ghost long: { length «by_channel» ≡ 64 },
     ghost light: { (c : ℕ) → getD «by_channel» c 0 ≤ 1000 },
 }

@@ -30,13 +30,30 @@ struct Case {
     question: Question,
 }
 
-// The first case, and the cases after it.
-fn next_case(cases: &[u8]) -> Option<(Case, &[u8])>
-    ensures { λ r. ⌜ elim r [ None ↦ Unit {0} | Some parts ↦ length (now (parts .1)) < length (now (cases .entry)) ] ⌝ }
+// The question at the front of the bytes, and the bytes after it.
+fn next_question(bytes: &[u8]) -> Option<(Question, &[u8])>
+    ensures { λ r. ⌜ elim r [ None ↦ Unit {0} | Some parts ↦ length (now (parts .1)) < length (now (bytes .entry)) ] ⌝ }
+{
+    let [s1, s0, channel, d1, d0, x1, x0, k1, k0, rest @ ..] = bytes else {
+        return None;
+    };
+    let question = Question {
+        slots: u16::from_be_bytes([*s1, *s0]),
+        channel: *channel,
+        readings: u16::from_be_bytes([*d1, *d0]),
+        count: u16::from_be_bytes([*x1, *x0]),
+        slot: u16::from_be_bytes([*k1, *k0]),
+    };
+    Some((question, rest))
+}
+
+// The case at the front of the bytes, and the bytes after it.
+fn next_case(bytes: &[u8]) -> Option<(Case, &[u8])>
+    ensures { λ r. ⌜ elim r [ None ↦ Unit {0} | Some parts ↦ length (now (parts .1)) < length (now (bytes .entry)) ] ⌝ }
 {
     let [
         bottom,
-        wc,
+        channel,
         w1,
         w0,
         t3,
@@ -47,33 +64,19 @@ fn next_case(cases: &[u8]) -> Option<(Case, &[u8])>
         e2,
         e1,
         e0,
-        s1,
-        s0,
-        c,
-        d1,
-        d0,
-        x1,
-        x0,
-        k1,
-        k0,
         rest @ ..,
-    ] = cases
+    ] = bytes
     else {
         return None;
     };
+    let (question, rest) = next_question(rest)?;
     let case = Case {
         two_sided: *bottom == 1,
-        weight_channel: *wc,
+        weight_channel: *channel,
         weight: u16::from_be_bytes([*w1, *w0]),
         tolerance: u32::from_be_bytes([*t3, *t2, *t1, *t0]),
         limit: u32::from_be_bytes([*e3, *e2, *e1, *e0]),
-        question: Question {
-            slots: u16::from_be_bytes([*s1, *s0]),
-            channel: *c,
-            readings: u16::from_be_bytes([*d1, *d0]),
-            count: u16::from_be_bytes([*x1, *x0]),
-            slot: u16::from_be_bytes([*k1, *k0]),
-        },
+        question,
     };
     Some((case, rest))
 }
