@@ -117,23 +117,22 @@ def at_the_edges():
 
 
 def every_step():
-    """Each step from 0 to 255 and the cap after it, on both sides, at both of its ends."""
+    """Each step from 0 to 255 and some past the cap, on both sides, at both of its ends."""
     for step in list(range(256)) + [256, 257, 511, 512]:
         for q in (step * 512, step * 512 + 511):
-            for sign in (1, -1):
-                # With 4096 slots a step is 512 wide.
-                found = question_of(4096, sign * q)
-                if found is not None:
-                    yield (1, 0, 1, 0, LARGEST, *found)
+            yield (1, 0, 1, 0, LARGEST, *question_of(q))
+            yield (1, 0, 1, 0, LARGEST, *question_of(-q))
 
 
-def question_of(S, q):
-    """A question with S slots and this q, if there is one with readings 4095, which is prime to S."""
-    d = 4095
-    k = (-q * pow(d, -1, S)) % S
-    x, rest = divmod(q + k * d, S)
-    assert rest == 0
-    return (S, 0, d, x, k) if 0 <= x <= d else None
+def question_of(q):
+    """A question with 4,096 slots, so that a step is 512 wide, and this q."""
+    S = 4096
+    for d in range(4096, 0, -1):
+        for k in range(S + 1):
+            x, rest = divmod(q + k * d, S)
+            if rest == 0 and 0 <= x <= d:
+                return S, 0, d, x, k
+    raise AssertionError(f"no question has {q}")
 
 
 def at_random():

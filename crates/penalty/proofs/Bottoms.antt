@@ -1,4 +1,4 @@
--- The laws of a bottom: what a penalty owes that is given by its costs on the domain.
+-- The valley law of a bottom, from that of the function that gives its costs on the domain.
 use mathlib.Core.Path.{_≡_}
 use mathlib.Core.Bool.{true}
 use mathlib.Core.Logic.{⊎-elim}
@@ -14,12 +14,12 @@ use Rattle.penalty.specs.Deviation.{size}
 inside-below : (S c d k v w : ℕ) → v ≤ w → inside S c d w k ≡ true → inside S c d v k ≡ true
 inside-below S c d k v w h t = grind (arith, tells)
 
--- between two counts no count costs more than the larger of their costs, on the domain
-abbrev pub DomainValley : (ℕ → ℕ → ℕ → ℕ → ℕ) → Type 0
-DomainValley g = (S d k u v w : ℕ) → u ≤ v → v ≤ w → g S d v k ≤ max (g S d u k) (g S d w k)
+-- the valley law of a function of S, d, x and k
+abbrev pub PlainValley : (ℕ → ℕ → ℕ → ℕ → ℕ) → Type 0
+PlainValley g = (S d k u v w : ℕ) → u ≤ v → v ≤ w → g S d v k ≤ max (g S d u k) (g S d w k)
 
--- a valley on the domain is a valley everywhere
-pub bottom-valley : (g : ℕ → ℕ → ℕ → ℕ → ℕ) → Capped (bottom g) → DomainValley g → Valley (bottom g)
+-- a bottom keeps the valley law where its function does
+pub bottom-valley : (g : ℕ → ℕ → ℕ → ℕ → ℕ) → Capped (bottom g) → PlainValley g → Valley (bottom g)
 bottom-valley g capped valley S c d k u v w h l =
     let cap = capped S c d v k in
     let mid = valley S d k u v w h l in
@@ -31,8 +31,8 @@ bottom-valley g capped valley S c d k u v w h l =
     (λ f. rw f (omega arith))
     (cases-bool (inside S c d w k))
 
--- the size of q has one low point
-pub size-valley : DomainValley size
+-- the size of q keeps the valley law
+pub size-valley : PlainValley size
 size-valley S d k u v w h l =
     let low : S * u ≤ S * v = mul-le-mul-left S h in
     let high : S * v ≤ S * w = mul-le-mul-left S l in

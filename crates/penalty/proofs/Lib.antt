@@ -1,3 +1,4 @@
+-- The lemmas of this crate.
 pub mod Bottoms
 pub mod Maps
 pub mod Rising

@@ -42,7 +42,7 @@ module _ {m : ℕ → ℕ → ℕ} {f : Cost} (map : (c : ℕ) → CostMap (m c)
       omega (arith, s))
       (cases-lt (f S c d u k) (f S c d w k))
 
--- what never falls and makes no cost larger than the forbidden one is such a map, once the forbidden cost is kept
+-- where m never falls, and is at most the forbidden cost up to it, keep-top m is such a map
 keep-map : (m : ℕ → ℕ) → Rising m → ((n : ℕ) → n ≤ top → m n ≤ top) → CostMap (keep-top m)
 keep-map m rising capped = record {
   rising = λ a b l.

@@ -1,6 +1,6 @@
--- Functions of numbers that never fall.
+-- Comparisons of numbers: functions that never fall, and what is at most a number in both of two cases.
 use mathlib.Core.Bool.{Bool, true, false, cond}
-use Prim.Native.Nat.{ℕ, zero, suc, _*_, _/_, _≤_, min}
+use Prim.Native.Nat.{ℕ, zero, suc, _/_, _≤_}
 use native.Mathlib.Nat.{le-refl, zero-lt-suc, div-zero, div-mul-le-self, le-div-iff-mul-le}
 use native.Mathlib.Omega.{arith}
 
@@ -13,9 +13,9 @@ pub either-most : (t : Bool) {a b n : ℕ} → a ≤ n → b ≤ n → cond t a 
 either-most true l r = l
 either-most false l r = r
 
--- a part of a number rises with it
-pub part-rising : (S : ℕ) → Rising (λ n. n / S)
-part-rising zero a b h = rw (div-zero a, div-zero b) (le-refl 0)
-part-rising (suc S) a b h =
+-- the quotient by S, rounded down, never falls
+pub quotient-rising : (S : ℕ) → Rising (λ n. n / S)
+quotient-rising zero a b h = rw (div-zero a, div-zero b) (le-refl 0)
+quotient-rising (suc S) a b h =
     let l = div-mul-le-self a (suc S) in
     le-div-iff-mul-le (zero-lt-suc S) .1 (omega (arith, l, h))

@@ -1,6 +1,6 @@
--- The largest number that passes a test, and whole square roots as such numbers.
+-- The largest number that passes a test, and square roots, rounded down, as such numbers.
 use mathlib.Core.Path.{_≡_, _∙_, subst, sym}
-use mathlib.Core.Bool.{Bool, true, cond, _&&_}
+use mathlib.Core.Bool.{Bool, true, _&&_}
 use mathlib.Core.List.{List}
 use mathlib.Core.Logic.{⊎-elim}
 use Prim.Native.Nat.{ℕ, zero, suc, _+_, _*_, _≤_, _<_}
@@ -10,6 +10,7 @@ use lib.Dec.{leb, ltb}
 use lib.ListN.{length, getD}
 use Rattle.std.proofs.shelf.Tests.{cases-bool, cases-lt, true≢false, and-parts, leb-true, ltb-true, le-leb}
 use Rattle.penalty.specs.TwoSided.{largest, root, RootTable}
+use Rattle.penalty.proofs.Rising.{Rising}
 use Rattle.penalty.proofs.Tables.{every, entry}
 
 -- the largest number that passes does pass, where 0 does
@@ -52,10 +53,10 @@ root-above s v h =
     largest-above (λ v. leb (v * v) (1000 * s)) (1000 * s) v (omega (arith, l, h)) (le-leb (v * v) (1000 * s) h)
 
 -- the roots never fall
-pub root-rising : (s t : ℕ) → s ≤ t → root s ≤ root t
+pub root-rising : Rising root
 root-rising s t h = root-above t (root s) (let r = root-square s in omega (arith, r, h))
 
--- whether v is the whole square root of 1000·s, in numbers alone
+-- whether v is the square root of 1000·s, rounded down
 abbrev pub is-root : ℕ → ℕ → Bool
 is-root s v = leb (v * v) (1000 * s) && ltb (1000 * s) ((v + 1) * (v + 1))
 

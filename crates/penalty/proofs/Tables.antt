@@ -1,5 +1,5 @@
--- A rule of a table, proved at all of its entries by one test that the checker computes, entry after entry.
-use mathlib.Core.Path.{_≡_, refl, _∙_, subst, sym}
+-- Tables: a rule at every entry, by one test that the checker computes over the table; and entries that are at most a number.
+use mathlib.Core.Path.{_≡_, _∙_, subst, sym}
 use mathlib.Core.Bool.{Bool, true, _&&_}
 use mathlib.Core.List.{List, [], _∷_}
 use Prim.Native.Nat.{ℕ, zero, suc, _+_, _<_, _≤_, zero-le}
@@ -7,7 +7,7 @@ use native.Mathlib.Nat.{add-zero, zero-add, add-suc, suc-add, le-of-suc-le-suc, 
 use lib.ListN.{length, getD, set, replicate}
 use Rattle.std.proofs.shelf.Tests.{and-parts}
 
--- the test f passes at each entry with its place, places counted from i
+-- whether the test f passes at each entry with its place, where places are counted from i
 abbrev pub every : (ℕ → ℕ → Bool) → ℕ → List ℕ → Bool
 every f i [] = true
 every f i (x ∷ xs) = f i x && every f (suc i) xs
@@ -24,13 +24,13 @@ from f (x ∷ xs) i t (suc k) h =
 pub entry : (f : ℕ → ℕ → Bool) (xs : List ℕ) → every f 0 xs ≡ true → (k : ℕ) → k < length xs → f k (getD xs k 0) ≡ true
 entry f xs t k h = subst (λ (m : ℕ). f m (getD xs k 0) ≡ true) (zero-add k) (from f xs 0 t k h)
 
--- no entry of a table of equal entries is above n, where they are not
+-- a table of equal entries, each at most n, has no entry above n
 pub replicate-within : (m v n : ℕ) → v ≤ n → (k : ℕ) → getD (replicate m v) k 0 ≤ n
 replicate-within zero v n h k = zero-le
 replicate-within (suc m) v n h zero = h
 replicate-within (suc m) v n h (suc k) = replicate-within m v n h k
 
--- no entry is above n once one that is not has been set
+-- setting an entry to a number that is at most n keeps every entry at most n
 pub set-within : (xs : List ℕ) (i v n : ℕ) → v ≤ n → ((k : ℕ) → getD xs k 0 ≤ n) → (k : ℕ) → getD (set xs i v) k 0 ≤ n
 set-within [] i v n h all k = all k
 set-within (x ∷ xs) zero v n h all zero = h

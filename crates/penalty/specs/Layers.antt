@@ -11,11 +11,11 @@ use Rattle.penalty.specs.Deviation.{ahead}
 abbrev pub keep-top : (ℕ → ℕ) → ℕ → ℕ
 keep-top m n = cond (ltb n top) (m n) top
 
--- a cost under weight w: w times it, but below the forbidden cost
+-- a cost under weight w: the forbidden cost stays, another is multiplied by w, up to one below the forbidden cost
 abbrev pub weigh : ℕ → ℕ → ℕ
 weigh w = keep-top (λ n. min (w * n) (top - 1))
 
--- a cost under tolerance t: it falls by t, but not below 0
+-- a cost under tolerance t: the forbidden cost stays, another falls by t, but not below 0
 abbrev pub relax : ℕ → ℕ → ℕ
 relax t = keep-top (λ n. n - t)
 
@@ -31,6 +31,6 @@ banded t f S c d x k = relax t (f S c d x k)
 abbrev pub stopped : ℕ → Cost → Cost
 stopped e f S c d x k = cond (ltb e (ahead S d x k)) top (f S c d x k)
 
--- the depth of a layer over depth n
+-- the depth of a layer over depth n: one more, but at most 255
 abbrev pub deeper : ℕ → ℕ
 deeper n = min 255 (n + 1)

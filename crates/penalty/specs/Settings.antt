@@ -1,7 +1,5 @@
--- The settings of the layers: which are refused, and by which number.
-use mathlib.Core.Bool.{cond}
-use Prim.Native.Nat.{ℕ}
-use lib.Dec.{ltb}
+-- The settings of the layers: when one is refused, and by which number.
+use Prim.Native.Nat.{ℕ, _<_}
 use Rattle.penalty.specs.declared.settings.SettingRefusal.{SettingRefusal}
 use Rattle.penalty.specs.declared.settings.SettingRefusal.the-variants.{ChannelAboveLimit, WeightAboveLimit, ThresholdAboveLimit}
 
@@ -11,10 +9,23 @@ number ChannelAboveLimit = 1
 number WeightAboveLimit = 9
 number ThresholdAboveLimit = 10
 
--- the number by which weight w for channel c is refused, 0 where it is accepted
-abbrev pub weight-refusal : ℕ → ℕ → ℕ
-weight-refusal c w = cond (ltb 63 c) 1 (cond (ltb 1000 w) 9 0)
+-- what is wrong with weight w for channel c
+abbrev pub WeightFault : ℕ → ℕ → SettingRefusal → Type 0
+WeightFault c w ChannelAboveLimit = 63 < c
+WeightFault c w WeightAboveLimit = 1000 < w
+WeightFault c w ThresholdAboveLimit = ⊥
 
--- the number by which a tolerance or a limit n is refused, 0 where it is accepted
-abbrev pub threshold-refusal : ℕ → ℕ
-threshold-refusal n = cond (ltb 16_777_216 n) 10 0
+-- what is wrong with a tolerance or a limit n
+abbrev pub ThresholdFault : ℕ → SettingRefusal → Type 0
+ThresholdFault n ChannelAboveLimit = ⊥
+ThresholdFault n WeightAboveLimit = ⊥
+ThresholdFault n ThresholdAboveLimit = 16_777_216 < n
+
+-- nothing is wrong
+abbrev pub Accepted : (SettingRefusal → Type 0) → Type 0
+Accepted Fault = (e : SettingRefusal) → Fault e → ⊥
+
+-- e is the refusal: its fault is there, and none with a smaller number
+pub record Refused (Fault : SettingRefusal → Type 0) (e : SettingRefusal) : Type 0 where
+  pub fault : Fault e
+  pub first : (s : SettingRefusal) → number s < number e → Fault s → ⊥

@@ -23,14 +23,18 @@ pub record RootTable (table : List ℕ) : Type 0 where
   pub rule : (s : ℕ) → s < 256 → getD table s 0 ≡ root s
   pub rising : (s t : ℕ) → s ≤ t → t < 256 → getD table s 0 ≤ getD table t 0
 
--- the step: how many eighths of a reading the count is from its even share, rounded down, but at most 255
-abbrev pub step : ℕ → ℕ → ℕ → ℕ → ℕ
-step S d x k = min 255 ((8 * size S d x k) / S)
+-- the step of a q of size n: how many whole eighths of a reading it is, but at most 255
+abbrev pub step : ℕ → ℕ → ℕ
+step S n = min 255 ((8 * n) / S)
 
--- a bottom with two scales over the step: one where q is below zero, one where it is not
-abbrev pub sided : (ℕ → ℕ) → (ℕ → ℕ) → Cost
-sided low high = bottom (λ S d x k. cond (ltb (S * x) (k * d)) (low (step S d x k)) (high (step S d x k)))
+-- two scales over the step: one where q is below zero, one where it is not
+abbrev pub scaled : (ℕ → ℕ) → (ℕ → ℕ) → ℕ → ℕ → ℕ → ℕ → ℕ
+scaled low high S d x k = cond (ltb (S * x) (k * d)) (low (step S (size S d x k))) (high (step S (size S d x k)))
+
+-- the scale of the two-sided bottom where q is below zero
+abbrev pub forty : ℕ → ℕ
+forty s = 40 * s
 
 -- the cost of the two-sided bottom
 abbrev pub two-sided : Cost
-two-sided = sided (λ s. 40 * s) root
+two-sided = bottom (scaled forty root)

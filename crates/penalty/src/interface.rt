@@ -17,7 +17,7 @@ pub trait Penalty {
     // The meaning of a penalty: the cost of slots, channel, readings, count and slot.
     ghost cost: { Self → Cost };
 
-    // How many layers lie over the bottom, but at most 255.
+    // How many layers lie over the bottom, but at most 255; no law ties it to the layers.
     ghost depth: { Self → ℕ };
 
     // No cost is above TOP.

@@ -2,7 +2,7 @@
 ghost use mathlib.Core.Path.{_≡_};
 ghost use Prim.Native.Nat.{_≤_};
 ghost use Rattle.std.specs.declared.result.Result.the-variants.{Ok, Err};
-ghost use Rattle.penalty.specs.Settings.{number, threshold-refusal};
+ghost use Rattle.penalty.specs.Settings.{ThresholdFault, Accepted, Refused};
 use crate::settings::SettingRefusal;
 
 /// The largest size of q on the domain, 4,096 * 4,096, and so the largest tolerance or limit.
@@ -19,8 +19,8 @@ impl Threshold {
     /// The tolerance or limit of this value, unless it is refused with 10.
     pub fn new(value: u32) -> Result<Threshold, SettingRefusal>
         ensures { λ r. ⌜ elim r [
-          | Ok threshold ↦ (threshold-refusal value ≡ 0) × (threshold .value ≡ value)
-          | Err e ↦ number e ≡ threshold-refusal value
+          | Ok threshold ↦ Accepted (ThresholdFault value) × (threshold .value ≡ value)
+          | Err e ↦ Refused (ThresholdFault value) e
         ] ⌝ }
     {
         if value > LARGEST_SIZE {

@@ -1,7 +1,7 @@
 // The two-sided bottom: being behind the even share costs by another scale than being ahead of it.
 ghost use mathlib.Core.Path.{_≡_};
-ghost use Prim.Native.Nat.{_*_, _/_, _≤_, min};
-ghost use Rattle.penalty.specs.TwoSided.{two-sided};
+ghost use Prim.Native.Nat.{_≤_};
+ghost use Rattle.penalty.specs.TwoSided.{two-sided, step as step-of};
 use crate::deviation::deviation_of;
 use crate::domain::in_domain;
 use crate::interface::Penalty;
@@ -33,10 +33,10 @@ pub impl Penalty for TwoSided as TwoSidedPenalty {
     }
 }
 
-// The step of a size of q: how many eighths of a reading it is, rounded down, but at most 255.
+// The step of a q of this size: how many whole eighths of a reading it is, but at most 255.
 fn step(size: u32, slots: u16) -> u8
     requires { ⌜ 1 ≤ slots ⌝ }
-    ensures { λ r. ⌜ r ≡ min 255 ((8 * size) / slots) ⌝ }
+    ensures { λ r. ⌜ r ≡ step-of slots size ⌝ }
 {
     (8 * u64::from(size) / u64::from(slots)).min(255) as u8
 }

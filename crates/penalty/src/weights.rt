@@ -3,7 +3,7 @@ ghost use mathlib.Core.Path.{_≡_};
 ghost use Prim.Native.Nat.{ℕ, _≤_};
 ghost use lib.ListN.{length, getD, set, replicate};
 ghost use Rattle.std.specs.declared.result.Result.the-variants.{Ok, Err};
-ghost use Rattle.penalty.specs.Settings.{number, weight-refusal};
+ghost use Rattle.penalty.specs.Settings.{WeightFault, Accepted, Refused};
 use crate::interface::CHANNELS;
 use crate::settings::SettingRefusal;
 
@@ -14,9 +14,10 @@ pub const LARGEST_WEIGHT: u16 = 1_000;
 #[derive(Clone, Copy)]
 pub struct Weights {
     by_channel: [u16; CHANNELS],
-    // A weight for each channel number, and none above 1,000.
+    // A weight for each channel number.
     ghost long: { length «by_channel» ≡ 64 },
-    ghost light: { (c : ℕ) → getD «by_channel» c 0 ≤ 1000 },
+    // No weight is above 1,000.
+    ghost within: { (c : ℕ) → getD «by_channel» c 0 ≤ 1000 },
 }
 
 impl Weights {
@@ -32,8 +33,8 @@ impl Weights {
     /// Gives a channel its weight, unless it is refused with 1 or 9.
     pub fn set(&mut self, channel: u8, weight: u16) -> Result<(), SettingRefusal>
         ensures { λ r. ⌜ elim r [
-          | Ok _ ↦ (weight-refusal channel weight ≡ 0) × (now (self .exit) .«by_channel» ≡ set (now (self .entry) .«by_channel») channel weight)
-          | Err e ↦ (number e ≡ weight-refusal channel weight) × (now (self .exit) .«by_channel» ≡ now (self .entry) .«by_channel»)
+          | Ok _ ↦ Accepted (WeightFault channel weight) × (now (self .exit) .«by_channel» ≡ set (now (self .entry) .«by_channel») channel weight)
+          | Err e ↦ Refused (WeightFault channel weight) e × (now (self .exit) .«by_channel» ≡ now (self .entry) .«by_channel»)
         ] ⌝ }
     {
         if usize::from(channel) >= CHANNELS {

@@ -1,4 +1,4 @@
-// The worked tables of docs/RULES.md, the edges of the settings, and the audit over piles.
+// The worked tables and audits of docs/RULES.md, costs at the caps, refused settings, and depths.
 ghost use Prim.Native.Nat.{_≤_};
 ghost use Rattle.penalty.specs.Cost.{bottom};
 use penalty::AbsoluteDeviation;
@@ -74,27 +74,34 @@ fn three_to_one() -> Result<Weights, SettingRefusal> {
     Ok(weights)
 }
 
-// The audit of readings 1 and 1 under stop over band over weights 3 and 1 over a penalty.
-fn audited<P: Penalty + Drop>(
+// Stop over band 1 over weights 3 and 1 over a penalty.
+fn pile<P: Penalty + Drop>(
     below: P,
     limit: u32,
-    list: &[u8],
-) -> Result<Result<Largest, Refusal>, SettingRefusal> {
-    let layer = Weighted::over(below, three_to_one()?);
-    let layer = Banded::over(layer, Threshold::new(1)?);
-    let pile = Stopped::over(layer, Threshold::new(limit)?);
+) -> Result<Stopped<Banded<Weighted<P>>>, SettingRefusal> {
+    let weights = three_to_one()?;
+    let tolerance = Threshold::new(1)?;
+    let limit = Threshold::new(limit)?;
+    Ok(Stopped::over(
+        Banded::over(Weighted::over(below, weights), tolerance),
+        limit,
+    ))
+}
+
+// The audit of readings 1 and 1.
+fn audited<P: Penalty>(penalty: &P, list: &[u8]) -> Result<Largest, Refusal> {
     let mut row = [0; 64];
     row[0] = 1;
     row[1] = 1;
-    Ok(audit(&pile, &row, list))
+    audit(penalty, &row, list)
 }
 
-// A largest cost, first at channel 0 after slot 1.
-fn largest(cost: u64) -> Result<Largest, Refusal> {
+// A largest cost, first after slot 1.
+fn largest(cost: u64, channel: u8) -> Result<Largest, Refusal> {
     Ok(Largest {
         cost,
         slot: 1,
-        channel: 0,
+        channel,
     })
 }
 
@@ -208,13 +215,33 @@ fn depths() -> Result<(), Fail> {
 }
 
 #[test]
+fn piles() -> Result<(), Fail> {
+    let absolute = pile(AbsoluteDeviation, 1)?;
+    check_eq(costs(&absolute, 0), [0, TOP, 2, 2, 5, 0])?;
+    check_eq(costs(&absolute, 1), [0, TOP, 0, 0, 1, 0])?;
+    let two_sided = pile(TwoSided, 1)?;
+    check_eq(costs(&two_sided, 0), [0, TOP, 479, 188, 959, 0])?;
+    check_eq(costs(&two_sided, 1), [0, TOP, 159, 62, 319, 0])
+}
+
+#[test]
 fn audits_over_piles() -> Result<(), Fail> {
-    check_eq(audited(AbsoluteDeviation, 1, &[0, 1])?, largest(2))?;
-    check_eq(audited(AbsoluteDeviation, 0, &[0, 1])?, largest(TOP))?;
-    check_eq(audited(TwoSided, 1, &[0, 1])?, largest(188))?;
-    check_eq(audited(TwoSided, 1, &[1, 0])?, largest(479))?;
     check_eq(
-        audited(TwoSided, 1, &[1, 1])?,
+        audited(&pile(AbsoluteDeviation, 1)?, &[0, 1]),
+        largest(2, 0),
+    )?;
+    check_eq(
+        audited(&pile(AbsoluteDeviation, 0)?, &[0, 1]),
+        largest(TOP, 0),
+    )?;
+    check_eq(
+        audited(&pile(AbsoluteDeviation, 0)?, &[1, 0]),
+        largest(TOP, 1),
+    )?;
+    check_eq(audited(&pile(TwoSided, 1)?, &[0, 1]), largest(188, 0))?;
+    check_eq(audited(&pile(TwoSided, 1)?, &[1, 0]), largest(479, 0))?;
+    check_eq(
+        audited(&pile(TwoSided, 1)?, &[1, 1]),
         Err(Refusal::WrongCount { channel: 0 }),
     )
 }

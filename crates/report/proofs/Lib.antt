@@ -1,1 +1,2 @@
+-- The lemmas of this crate.
 pub mod Numbers

@@ -1,4 +1,4 @@
--- The laws of the layer stop that are not plain.
+-- The laws of the layer stop that the search leaves.
 use Rattle.penalty.proofs.Maps.{stop-capped, stop-valley}
 use Rattle.penalty.proofs.stopped.StoppedPenalty.the-impl.Needs as need
 
