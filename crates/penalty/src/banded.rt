@@ -6,7 +6,7 @@ use crate::interface::TOP;
 use crate::threshold::Threshold;
 
 /// A penalty whose costs below TOP fall by a tolerance, but not below 0.
-#[derive(Clone, Copy, Drop)]
+#[derive(Drop)]
 pub struct Banded<P> {
     below: P,
     tolerance: Threshold,

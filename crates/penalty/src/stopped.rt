@@ -7,7 +7,7 @@ use crate::interface::TOP;
 use crate::threshold::Threshold;
 
 /// A penalty that forbids each q above a limit.
-#[derive(Clone, Copy, Drop)]
+#[derive(Drop)]
 pub struct Stopped<P> {
     below: P,
     limit: Threshold,

@@ -6,7 +6,7 @@ use crate::interface::TOP;
 use crate::weights::Weights;
 
 /// A penalty whose costs below TOP are multiplied by the weight of the channel, up to TOP - 1.
-#[derive(Clone, Copy, Drop)]
+#[derive(Drop)]
 pub struct Weighted<P> {
     below: P,
     weights: Weights,

@@ -113,6 +113,11 @@ fn level_of(cost: u64) -> Level {
     }
 }
 
+// A layer at depth 255.
+fn deepest() -> Weighted<Level> {
+    Weighted::over(level_of(0), Weights::new())
+}
+
 // One cost under weights, for channel 0.
 fn weighted_level(cost: u64, weights: Weights) -> u64 {
     Weighted::over(level_of(cost), weights).cost(2, 0, 1, 0, 0)
@@ -205,13 +210,11 @@ fn depths() -> Result<(), Fail> {
     let one = Stopped::over(TwoSided, Threshold::new(0)?);
     check_eq(one.depth(), 1)?;
     check_eq(Banded::over(one, Threshold::new(0)?).depth(), 2)?;
-    let deep = level_of(0);
-    check_eq(deep.depth(), 254)?;
-    let deeper = Weighted::over(deep, Weights::new());
-    check_eq(deeper.depth(), 255)?;
-    check_eq(Weighted::over(deeper, Weights::new()).depth(), 255)?;
-    check_eq(Banded::over(deeper, Threshold::new(0)?).depth(), 255)?;
-    check_eq(Stopped::over(deeper, Threshold::new(0)?).depth(), 255)
+    check_eq(level_of(0).depth(), 254)?;
+    check_eq(deepest().depth(), 255)?;
+    check_eq(Weighted::over(deepest(), Weights::new()).depth(), 255)?;
+    check_eq(Banded::over(deepest(), Threshold::new(0)?).depth(), 255)?;
+    check_eq(Stopped::over(deepest(), Threshold::new(0)?).depth(), 255)
 }
 
 #[test]
