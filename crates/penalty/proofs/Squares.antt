@@ -11,7 +11,7 @@ use lib.ListN.{length, getD}
 use Rattle.std.proofs.shelf.Tests.{cases-bool, cases-lt, true≢false, and-parts, leb-true, ltb-true, le-leb}
 use Rattle.penalty.specs.TwoSided.{largest, root, RootTable}
 use Rattle.penalty.proofs.Rising.{Rising}
-use Rattle.penalty.proofs.Tables.{every, entry}
+use Rattle.penalty.proofs.Tables.{holds, holds-at}
 
 -- the largest number that passes does pass, where 0 does
 largest-passes : (p : ℕ → Bool) (n : ℕ) → p 0 ≡ true → p (largest p n) ≡ true
@@ -75,9 +75,9 @@ root-is s v t =
     (cases-lt v (root s)))
 
 -- a table of 256 entries that passes the test at each of them is the root table
-pub root-table : (xs : List ℕ) → length xs ≡ 256 → every is-root 0 xs ≡ true → RootTable xs
+pub root-table : (xs : List ℕ) → length xs ≡ 256 → holds is-root xs ≡ true → RootTable xs
 root-table xs long test =
-    let rule : (s : ℕ) → s < 256 → getD xs s 0 ≡ root s = λ s h. root-is s (getD xs s 0) (entry is-root xs test s (omega (arith, long, h))) in
+    let rule : (s : ℕ) → s < 256 → getD xs s 0 ≡ root s = λ s h. root-is s (getD xs s 0) (holds-at is-root xs test s (omega (arith, long, h))) in
     record {
       long = long;
       rule = rule;

@@ -1,28 +1,22 @@
 -- Tables: a rule at every entry, by one test that the checker computes over the table; and entries that are at most a number.
-use mathlib.Core.Path.{_≡_, _∙_, subst, sym}
+use mathlib.Core.Path.{_≡_}
 use mathlib.Core.Bool.{Bool, true, _&&_}
 use mathlib.Core.List.{List, [], _∷_}
-use Prim.Native.Nat.{ℕ, zero, suc, _+_, _<_, _≤_, zero-le}
-use native.Mathlib.Nat.{add-zero, zero-add, add-suc, suc-add, le-of-suc-le-suc, not-suc-le-zero}
+use Prim.Native.Nat.{ℕ, zero, suc, _<_, _≤_, zero-le}
+use native.Mathlib.Nat.{le-of-suc-le-suc, not-suc-le-zero}
 use lib.ListN.{length, getD, set, replicate}
 use Rattle.std.proofs.shelf.Tests.{and-parts}
 
--- whether the test f passes at each entry with its place, where places are counted from i
-abbrev pub every : (ℕ → ℕ → Bool) → ℕ → List ℕ → Bool
-every f i [] = true
-every f i (x ∷ xs) = f i x && every f (suc i) xs
+-- whether p holds of each entry and its place: of the first at place 0, and of the others one place further on
+abbrev pub holds : (ℕ → ℕ → Bool) → List ℕ → Bool
+holds p [] = true
+holds p (x ∷ xs) = p 0 x && holds (λ k. p (suc k)) xs
 
--- what passes at every entry passes at entry k, places counted from i
-from : (f : ℕ → ℕ → Bool) (xs : List ℕ) (i : ℕ) → every f i xs ≡ true → (k : ℕ) → k < length xs → f (i + k) (getD xs k 0) ≡ true
-from f [] i t k h = absurd (not-suc-le-zero h)
-from f (x ∷ xs) i t zero h = subst (λ (m : ℕ). f m x ≡ true) (sym (add-zero i)) (and-parts (f i x) (every f (suc i) xs) t .0)
-from f (x ∷ xs) i t (suc k) h =
-    subst (λ (m : ℕ). f m (getD xs k 0) ≡ true) (suc-add i k ∙ sym (add-suc i k))
-    (from f xs (suc i) (and-parts (f i x) (every f (suc i) xs) t .1) k (le-of-suc-le-suc h))
-
--- what passes at every entry passes at entry k
-pub entry : (f : ℕ → ℕ → Bool) (xs : List ℕ) → every f 0 xs ≡ true → (k : ℕ) → k < length xs → f k (getD xs k 0) ≡ true
-entry f xs t k h = subst (λ (m : ℕ). f m (getD xs k 0) ≡ true) (zero-add k) (from f xs 0 t k h)
+-- what holds of each entry and its place holds of entry k
+pub holds-at : (p : ℕ → ℕ → Bool) (xs : List ℕ) → holds p xs ≡ true → (k : ℕ) → k < length xs → p k (getD xs k 0) ≡ true
+holds-at p [] t k h = absurd (not-suc-le-zero h)
+holds-at p (x ∷ xs) t zero h = and-parts (p 0 x) (holds (λ k. p (suc k)) xs) t .0
+holds-at p (x ∷ xs) t (suc k) h = holds-at (λ k. p (suc k)) xs (and-parts (p 0 x) (holds (λ k. p (suc k)) xs) t .1) k (le-of-suc-le-suc h)
 
 -- a table of equal entries, each at most n, has no entry above n
 pub replicate-within : (m v n : ℕ) → v ≤ n → (k : ℕ) → getD (replicate m v) k 0 ≤ n

@@ -6,7 +6,7 @@ use crate::interface::Penalty;
 use crate::interface::TOP;
 
 /// The size of S·x − k·d.
-#[derive(Clone, Copy, Debug)]
+#[derive(Clone, Copy)]
 pub struct AbsoluteDeviation;
 
 pub impl Penalty for AbsoluteDeviation as AbsolutePenalty {

@@ -9,7 +9,7 @@ use crate::interface::TOP;
 use crate::root_table::roots;
 
 /// 40 for each step where the count is behind its even share, the root table where it is not.
-#[derive(Clone, Copy, Debug)]
+#[derive(Clone, Copy)]
 pub struct TwoSided;
 
 pub impl Penalty for TwoSided as TwoSidedPenalty {

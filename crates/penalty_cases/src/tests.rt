@@ -32,13 +32,13 @@ use std::test::*;
 
 // A bottom of one cost and a depth of its own, for costs and depths that the bottoms do not reach.
 #[derive(Clone, Copy)]
-struct Level {
+struct Constant {
     cost: u64,
     depth: u8,
     ghost capped: { cost ≤ 1099511627775 },
 }
 
-impl Penalty for Level as LevelPenalty {
+impl Penalty for Constant as ConstantPenalty {
     ghost cost = { λ p. bottom (λ _ _ _ _. p .cost) };
 
     ghost depth = { λ p. p .depth };
@@ -106,26 +106,26 @@ fn largest(cost: u64, channel: u8) -> Result<Largest, Refusal> {
 }
 
 // The bottom of one cost, at depth 254.
-fn level_of(cost: u64) -> Level {
-    Level {
+fn constant_of(cost: u64) -> Constant {
+    Constant {
         cost: cost.min(TOP),
         depth: 254,
     }
 }
 
 // A layer at depth 255.
-fn deepest() -> Weighted<Level> {
-    Weighted::over(level_of(0), Weights::new())
+fn deepest() -> Weighted<Constant> {
+    Weighted::over(constant_of(0), Weights::new())
 }
 
 // One cost under weights, for channel 0.
-fn weighted_level(cost: u64, weights: Weights) -> u64 {
-    Weighted::over(level_of(cost), weights).cost(2, 0, 1, 0, 0)
+fn weighted_constant(cost: u64, weights: Weights) -> u64 {
+    Weighted::over(constant_of(cost), weights).cost(2, 0, 1, 0, 0)
 }
 
 // One cost under a tolerance.
-fn banded_level(cost: u64, tolerance: Threshold) -> u64 {
-    Banded::over(level_of(cost), tolerance).cost(2, 0, 1, 0, 0)
+fn banded_constant(cost: u64, tolerance: Threshold) -> u64 {
+    Banded::over(constant_of(cost), tolerance).cost(2, 0, 1, 0, 0)
 }
 
 #[test]
@@ -160,27 +160,36 @@ fn order_of_layers() -> Result<(), Fail> {
 #[test]
 fn weights_at_the_cap() -> Result<(), Fail> {
     let mut weights = Weights::new();
-    check_eq(weighted_level(TOP - 1, weights), TOP - 1)?;
+    check_eq(weighted_constant(TOP - 1, weights), TOP - 1)?;
     weights.set(0, 1000)?;
-    check_eq(weighted_level(TOP - 1, weights), TOP - 1)?;
-    check_eq(weighted_level(TOP, weights), TOP)?;
+    check_eq(weighted_constant(TOP - 1, weights), TOP - 1)?;
+    check_eq(weighted_constant(TOP, weights), TOP)?;
     weights.set(0, 2)?;
-    check_eq(weighted_level(549_755_813_886, weights), 1_099_511_627_772)?;
-    check_eq(weighted_level(549_755_813_887, weights), 1_099_511_627_774)?;
-    check_eq(weighted_level(549_755_813_888, weights), 1_099_511_627_774)?;
+    check_eq(
+        weighted_constant(549_755_813_886, weights),
+        1_099_511_627_772,
+    )?;
+    check_eq(
+        weighted_constant(549_755_813_887, weights),
+        1_099_511_627_774,
+    )?;
+    check_eq(
+        weighted_constant(549_755_813_888, weights),
+        1_099_511_627_774,
+    )?;
     weights.set(0, 0)?;
-    check_eq(weighted_level(TOP - 1, weights), 0)?;
-    check_eq(weighted_level(TOP, weights), TOP)
+    check_eq(weighted_constant(TOP - 1, weights), 0)?;
+    check_eq(weighted_constant(TOP, weights), TOP)
 }
 
 #[test]
 fn bands_at_the_cap() -> Result<(), Fail> {
     let widest = Threshold::new(16_777_216)?;
-    check_eq(banded_level(16_777_215, widest), 0)?;
-    check_eq(banded_level(16_777_216, widest), 0)?;
-    check_eq(banded_level(16_777_217, widest), 1)?;
-    check_eq(banded_level(TOP - 1, widest), 1_099_494_850_558)?;
-    check_eq(banded_level(TOP, widest), TOP)
+    check_eq(banded_constant(16_777_215, widest), 0)?;
+    check_eq(banded_constant(16_777_216, widest), 0)?;
+    check_eq(banded_constant(16_777_217, widest), 1)?;
+    check_eq(banded_constant(TOP - 1, widest), 1_099_494_850_558)?;
+    check_eq(banded_constant(TOP, widest), TOP)
 }
 
 #[test]
@@ -210,7 +219,7 @@ fn depths() -> Result<(), Fail> {
     let one = Stopped::over(TwoSided, Threshold::new(0)?);
     check_eq(one.depth(), 1)?;
     check_eq(Banded::over(one, Threshold::new(0)?).depth(), 2)?;
-    check_eq(level_of(0).depth(), 254)?;
+    check_eq(constant_of(0).depth(), 254)?;
     check_eq(deepest().depth(), 255)?;
     check_eq(Weighted::over(deepest(), Weights::new()).depth(), 255)?;
     check_eq(Banded::over(deepest(), Threshold::new(0)?).depth(), 255)?;

@@ -1,4 +1,4 @@
--- The laws of the layer stop that the search leaves.
+-- Two laws of the layer stop, each by a lemma; the search proves the third.
 use Rattle.penalty.proofs.Maps.{stop-capped, stop-valley}
 use Rattle.penalty.proofs.stopped.StoppedPenalty.the-impl.Needs as need
 
