@@ -1,4 +1,6 @@
 // Audits the scan list on standard input under the absolute deviation, and prints one line.
+#![tactic(auto)]
+
 use report::{LINE_BYTES, report_absolute};
 use std::io;
 use std::io::{Read, Write};

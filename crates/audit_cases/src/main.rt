@@ -1,4 +1,6 @@
 // Runs the audit over many inputs, one after another on standard input, and prints the line of each.
+#![tactic(auto)]
+
 ghost use Rattle.std.specs.Prelude.{◌<◌, length, Some, None};
 
 use report::{LINE_BYTES, report_absolute};

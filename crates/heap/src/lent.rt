@@ -20,7 +20,7 @@ impl<'a, T: Ordered> Heap<'a, T> {
     /// A heap that keeps nothing yet. It leaves the memory as it is.
     pub fn new(memory: &'a mut [T]) -> Heap<'a, T>
         ensures none { result.len ≡ 0 }
-        ensures sound { Sound leq result.items.now result.len }
+        ensures sound { Sound T.leq result.items.now result.len }
         ensures untouched { result.items.now ≡ memory.old }
         ensures named { result.items.ghost_name ≡ memory.entry.ghost_name }
     {
@@ -32,8 +32,8 @@ impl<'a, T: Ordered> Heap<'a, T> {
 
     /// Keeps one element more, or refuses it where no place is left.
     pub fn push(&mut self, x: T) -> Result<(), Full>
-        requires { Sound leq self.old.items.now self.old.len }
-        ensures sound { Sound leq self.new.items.now self.new.len }
+        requires { Sound T.leq self.old.items.now self.old.len }
+        ensures sound { Sound T.leq self.new.items.now self.new.len }
         ensures named { self.new.items.ghost_name ≡ self.old.items.ghost_name }
         ensures outcome { elim result [
           | Ok _ ↦ Pushed x self.old.items.now self.old.len self.new.items.now self.new.len
@@ -52,12 +52,12 @@ impl<'a, T: Ordered> Heap<'a, T> {
 
     /// Takes out the element that `first` shows; nothing where none is kept.
     pub fn pop(&mut self) -> Option<T>
-        requires { Sound leq self.old.items.now self.old.len }
-        ensures sound { Sound leq self.new.items.now self.new.len }
+        requires { Sound T.leq self.old.items.now self.old.len }
+        ensures sound { Sound T.leq self.new.items.now self.new.len }
         ensures named { self.new.items.ghost_name ≡ self.old.items.ghost_name }
         ensures outcome { elim result [
           | None ↦ (self.old.len ≡ 0) × (self.new.len ≡ 0) × (self.new.items.now ≡ self.old.items.now)
-          | Some x ↦ Popped leq x self.old.items.now self.old.len self.new.items.now self.new.len
+          | Some x ↦ Popped T.leq x self.old.items.now self.old.len self.new.items.now self.new.len
         ] }
     {
         let first = self.first()?;
@@ -70,10 +70,10 @@ impl<'a, T: Ordered> Heap<'a, T> {
 
     /// An element that may come out before every other; nothing where none is kept.
     pub fn first(&self) -> Option<T>
-        requires { Sound leq self.now.items.now self.now.len }
+        requires { Sound T.leq self.now.items.now self.now.len }
         ensures { elim result [
           | None ↦ self.now.len ≡ 0
-          | Some x ↦ First leq x self.now.items.now self.now.len
+          | Some x ↦ First T.leq x self.now.items.now self.now.len
         ] }
     {
         if self.len == 0 {

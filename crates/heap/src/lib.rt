@@ -1,4 +1,6 @@
 // One binary heap over memory that the caller lends, for every kind of element with a total order.
+#![tactic(auto)]
+
 mod lent;
 mod order;
 mod sift;

@@ -7,7 +7,7 @@ use crate::order::Ordered;
 // Whether the element at place i may come out before the one at place j.
 fn leq_at<T: Ordered>(items: &[T], i: usize, j: usize) -> bool
     requires { (i < length items.now) × (j < length items.now) }
-    ensures { (d : T) → leq (slice_index_or items.now i d) (slice_index_or items.now j d) ≡ result }
+    ensures { (d : T) → T.leq (slice_index_or items.now i d) (slice_index_or items.now j d) ≡ result }
 {
     items[i].leq(&items[j])
 }
@@ -23,9 +23,9 @@ fn parent_of(at: usize) -> usize
 // Moves the element at `start` up, past every parent that may not come out before it.
 pub(crate) fn sift_up<T: Ordered>(items: &mut [T], start: usize)
     requires within { start < length items.old }
-    requires heaped { Heaped leq items.old start }
+    requires heaped { Heaped T.leq items.old start }
     ensures same { Rearranged (start + 1) items.old items.new }
-    ensures heaped { Heaped leq items.new (start + 1) }
+    ensures heaped { Heaped T.leq items.new (start + 1) }
 {
     let mut at = start;
     while at > 0 {
@@ -41,7 +41,7 @@ pub(crate) fn sift_up<T: Ordered>(items: &mut [T], start: usize)
 // The child of `at` that may come out before the other, among the first `len` elements.
 fn least_child<T: Ordered>(items: &[T], at: usize, len: usize) -> usize
     requires { (at * 2 + 1 < len) × (len ≤ length items.now) }
-    ensures { LeastChild leq items.now at len result }
+    ensures { LeastChild T.leq items.now at len result }
 {
     let left = at * 2 + 1;
     if left + 1 == len {
@@ -57,9 +57,9 @@ fn least_child<T: Ordered>(items: &[T], at: usize, len: usize) -> usize
 // Moves the first element down among the first `len`, until it may come out before its children.
 pub(crate) fn sift_down<T: Ordered>(items: &mut [T], len: usize)
     requires within { len ≤ length items.old }
-    requires heaped { HeapedFrom leq 1 items.old len }
+    requires heaped { HeapedFrom T.leq 1 items.old len }
     ensures same { Rearranged len items.old items.new }
-    ensures heaped { Heaped leq items.new len }
+    ensures heaped { Heaped T.leq items.new len }
 {
     let mut at = 0;
     while at < len / 2 {

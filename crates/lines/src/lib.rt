@@ -1,4 +1,6 @@
 // What the programs print: lines in memory that the caller lends.
+#![tactic(auto)]
+
 mod audited;
 mod put;
 

@@ -1,4 +1,6 @@
 // The matching of windows to slots. It is given windows alone.
+#![tactic(auto)]
+
 mod answer;
 mod arranged;
 mod channels;

@@ -1,4 +1,6 @@
 // Matches many sets of windows to slots, case after case on standard input, and prints what each is answered.
+#![tactic(auto)]
+
 #[cfg(test)]
 mod tests;
 mod worked;

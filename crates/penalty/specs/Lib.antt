@@ -1,11 +1,13 @@
--- The definitions that the contracts of this crate cite.
+-- The definitions that the contracts of this crate cite, and the lemmas by which its penalties keep the laws.
 pub mod Absolute
+pub mod Bottoms
 pub mod Cost
 pub mod Deviation
 pub mod Layers
-pub mod Settings
-pub mod TwoSided
-pub mod Bottoms
 pub mod Maps
 pub mod Rising
-pub mod WeightedPenaltyLemmas
+pub mod Scales
+pub mod Settings
+pub mod Squares
+pub mod TwoSided
+pub mod TwoSidedLaws

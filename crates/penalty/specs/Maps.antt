@@ -1,5 +1,5 @@
 -- The laws of the layers, from those of the penalty below: maps of costs that never fall and keep the forbidden cost, and stops.
-use Rattle.std.specs.Prelude.{◌≡◌, ℕ, ◌-◌, ◌*◌, ◌<◌, ◌≤◌, min, nat_lt, refl}
+use Rattle.std.specs.Prelude.{◌≡◌, ℕ, ◌-◌, ◌*◌, ◌<◌, ◌≤◌, min, List, nat_lt, slice_index, refl}
 use Rattle.std.proofs.Common.{◌∙◌, ap, subst, ⊎_elim, mul-le-mul_left, le_refl, arith}
 use Rattle.std.proofs.lemmas.Bool.{cases_lt, lt-ltb, le-ltb}
 use Rattle.penalty.specs.Cost.{Cost, top, Capped, Outside, Valley}
@@ -56,6 +56,10 @@ keep_map m rising capped = record {
 -- a weight is such a map
 pub weigh_map : (w : ℕ) → CostMap (weigh w)
 weigh_map w = keep_map (λ n. min (w * n) (top - 1)) (λ a b l. let p = mul-le-mul_left w l in omega (arith, p)) (λ n h. omega arith)
+
+-- a table of weights gives one for each channel
+pub weight_maps : (weights : List ℕ) (c : ℕ) → CostMap (weigh (slice_index weights c))
+weight_maps weights c = weigh_map (slice_index weights c)
 
 -- a tolerance is such a map
 pub relax_map : (t : ℕ) → CostMap (relax t)

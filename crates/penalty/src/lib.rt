@@ -1,4 +1,6 @@
 // What a moment of a scan list costs: the interface of all penalties, and the penalties themselves.
+#![tactic(auto)]
+
 mod absolute;
 mod banded;
 mod deviation;

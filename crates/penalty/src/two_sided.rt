@@ -1,6 +1,7 @@
 // The two-sided bottom: being behind the even share costs by another scale than being ahead of it.
 ghost use Rattle.std.specs.Prelude.{◌≡◌, ◌≤◌};
 ghost use Rattle.penalty.specs.TwoSided.{two_sided, step as step_of_lem};
+ghost use Rattle.penalty.specs.TwoSidedLaws.{two_sided_capped, two_sided_valley};
 ghost use Rattle.std.proofs.Common.{rules};
 
 use crate::deviation::deviation_of;
@@ -17,7 +18,11 @@ impl Penalty for TwoSided {
 
     ghost depth = { λ _. 0 };
 
+    ghost capped = { λ _. two_sided_capped };
+
     ghost outside = { Prim.search rules };
+
+    ghost valley = { λ _. two_sided_valley };
 
     fn cost(&self, slots: u16, channel: u8, readings: u16, count: u16, slot: u16) -> u64 {
         if !in_domain(slots, channel, readings, count, slot) {

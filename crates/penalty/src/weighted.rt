@@ -1,8 +1,7 @@
 // The layer weights: each cost times the weight of its channel.
 ghost use Rattle.std.specs.Prelude.{◌≡◌};
 ghost use Rattle.penalty.specs.Layers.{weighted, deeper};
-ghost use Rattle.penalty.specs.Maps.{map_capped, map_outside, map_valley};
-ghost use Rattle.penalty.specs.WeightedPenaltyLemmas.{maps};
+ghost use Rattle.penalty.specs.Maps.{map_capped, map_outside, map_valley, weight_maps};
 
 use crate::interface::{Penalty, TOP};
 use crate::weights::Weights;
@@ -28,11 +27,11 @@ impl<P: Penalty> Penalty for Weighted<P> {
 
     ghost depth = { λ p. deeper (P.Penalty.depth p.below) };
 
-    ghost capped = { λ p. map_capped (maps p.weights.by_channel) (P.Penalty.capped p.below) };
+    ghost capped = { λ p. map_capped (weight_maps p.weights.by_channel) (P.Penalty.capped p.below) };
 
-    ghost outside = { λ p. map_outside (maps p.weights.by_channel) (P.Penalty.outside p.below) };
+    ghost outside = { λ p. map_outside (weight_maps p.weights.by_channel) (P.Penalty.outside p.below) };
 
-    ghost valley = { λ p. map_valley (maps p.weights.by_channel) (P.Penalty.valley p.below) };
+    ghost valley = { λ p. map_valley (weight_maps p.weights.by_channel) (P.Penalty.valley p.below) };
 
     fn cost(&self, slots: u16, channel: u8, readings: u16, count: u16, slot: u16) -> u64 {
         let cost = self.below.cost(slots, channel, readings, count, slot);

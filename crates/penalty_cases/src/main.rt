@@ -1,4 +1,6 @@
 // Asks piles of layers for many costs, case after case on standard input, and prints each answer.
+#![tactic(auto)]
+
 mod pile;
 #[cfg(test)]
 mod tests;

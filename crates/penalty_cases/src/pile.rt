@@ -24,7 +24,7 @@ pub struct Question {
 
 /// The cost of a question under stop over band over weights over a penalty.
 pub fn pile_cost<P: Penalty + Drop>(below: P, settings: Settings, question: Question) -> u64
-    ensures { result ≡ stopped settings.limit.value (banded settings.tolerance.value (weighted settings.weights.by_channel (P.Penalty.cost below))) question.slots question.channel question.readings question.count question.slot }
+    ensures { result ≡ stopped settings.limit.value (banded settings.tolerance.value (weighted settings.weights.by_channel (P.cost below))) question.slots question.channel question.readings question.count question.slot }
 {
     let layer = Weighted::over(below, settings.weights);
     let layer = Banded::over(layer, settings.tolerance);

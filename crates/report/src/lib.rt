@@ -1,4 +1,6 @@
 // The audit as a whole: from the bytes of its input to the line that it prints.
+#![tactic(auto)]
+
 mod input;
 mod whole;
 

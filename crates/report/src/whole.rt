@@ -10,7 +10,7 @@ use round::audit;
 /// Audits the list of an input, writes the line of the answer at the start of the memory, and
 /// answers its length.
 pub fn report<P: Penalty>(penalty: &P, input: &[u8], memory: &mut [u8; LINE_BYTES]) -> usize
-    ensures { Reported (cost penalty.now) input.now memory.old memory.new result }
+    ensures { Reported (P.cost penalty.now) input.now memory.old memory.new result }
 {
     let mut row = [0; CHANNELS];
     let count = read_row(input, &mut row);

@@ -1,4 +1,6 @@
 // Readings, scan lists and their audit.
+#![tactic(auto)]
+
 mod complete;
 mod counting;
 mod largest;

@@ -13,7 +13,7 @@ use penalty::{CHANNELS, Penalty};
 /// The largest cost of the list for the channels of the row, and the first moment that has it:
 /// the smallest k, then the smallest channel.
 pub fn audit<P: Penalty>(penalty: &P, row: &[u16], list: &[u8]) -> Result<Largest, Refusal>
-    ensures { Audited (cost penalty.now) row.now list.now result }
+    ensures { Audited (P.cost penalty.now) row.now list.now result }
 {
     let readings = Readings::from_row(row)?;
     readings.check(list)?;
@@ -23,7 +23,7 @@ pub fn audit<P: Penalty>(penalty: &P, row: &[u16], list: &[u8]) -> Result<Larges
 // Counts the channels slot by slot, and takes the costs after each slot.
 fn largest_cost<P: Penalty>(penalty: &P, readings: &Readings, list: &[u8]) -> Largest
     requires { Sound readings.now.by_channel × Complete readings.now.by_channel list.now }
-    ensures { FirstLargest (cost penalty.now) readings.now.by_channel list.now result }
+    ensures { FirstLargest (P.cost penalty.now) readings.now.by_channel list.now result }
 {
     let mut counts = [0; CHANNELS];
     let mut found = scan(penalty, readings, &counts, 0, None);
@@ -42,7 +42,7 @@ fn scan<P: Penalty>(
     slot: u16,
     before: Option<Largest>,
 ) -> Option<Largest>
-    ensures { Scanned (cost penalty.now) readings.now.by_channel counts.now slot before result }
+    ensures { Scanned (P.cost penalty.now) readings.now.by_channel counts.now slot before result }
 {
     let mut found = before;
     for channel in 0..CHANNELS as u8 {
@@ -68,7 +68,7 @@ fn cost_after<P: Penalty>(
     channel: u8,
 ) -> u64
     requires { channel < 64 }
-    ensures { result ≡ cost penalty.now (sum readings.now.by_channel) channel (d_of readings.now.by_channel channel) (slice_index counts.now channel) slot }
+    ensures { result ≡ P.cost penalty.now (sum readings.now.by_channel) channel (d_of readings.now.by_channel channel) (slice_index counts.now channel) slot }
 {
     let count = counts[usize::from(channel)];
     penalty.cost(readings.total(), channel, readings.of(channel), count, slot)
