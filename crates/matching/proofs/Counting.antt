@@ -4,7 +4,7 @@ use Rattle.std.specs.List.{range_with_len, AllByRecursion as All}
 use Rattle.std.proofs.lemmas.List.FromFn.{fill_by_all, get_or-range_with_len, length-range_with_len}
 use Rattle.std.proofs.ByRecursion.{All-weaker}
 use Rattle.std.proofs.lemmas.List.Sums.{get_or-le-sum_by, sum_by-cons}
-use Rattle.std.proofs.lemmas.Bool.{and_from, and_parts, cases_Bool, cases_lt, eq-eqb, eqb-true, lt-ltb, not_false}
+use Rattle.std.proofs.lemmas.Bool.{and_from, and_parts, cases_Bool, cases_lt, eq-eqb, eqb-true, lt-ltb, not-false}
 use Rattle.std.proofs.lemmas.Bool.Decides.{nat_tests}
 
 module _ {X : Type 0} where
@@ -84,7 +84,7 @@ module _ {X : Type 0} where
       (i : ℕ) (d : X) → i < length xs → p (get_or xs i d) ≡ true
   count_all p xs all i d h =
       let both = count_both p xs in
-      not_false (p (get_or xs i d)) (count_none (λ x. not (p x)) xs i d (omega arith) h)
+      not-false (p (get_or xs i d)) (count_none (λ x. not (p x)) xs i d (omega arith) h)
 
   -- a test that every element passes counts them all
   count_every : (p : X → Bool) (xs : List X) → All (λ x. p x ≡ true) xs → count_by p xs ≡ length xs

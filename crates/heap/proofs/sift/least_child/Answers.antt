@@ -9,14 +9,14 @@ returns-then-left-len g c =
     let a = c.args in
     least_left g.T.Ordered.leq o.total o.transitive a.items.now a.at a.len (a.at * 2 + 1) refl (omega arith) (λ more. absurd (omega arith))
 
-pub returns-then-leq-at : goal.returns-then-leq-at
-returns-then-leq-at g c =
+pub returns-then-leq_at : goal.returns-then-leq_at
+returns-then-leq_at g c =
     let o = g.met.T.Ordered in
     let a = c.args in
-    least_left g.T.Ordered.leq o.total o.transitive a.items.now a.at a.len (a.at * 2 + 1) refl (omega arith) (λ more d. c.if-leq-at.ensures d)
+    least_left g.T.Ordered.leq o.total o.transitive a.items.now a.at a.len (a.at * 2 + 1) refl (omega arith) (λ more d. c.if-leq_at.ensures d)
 
-pub returns-else-leq-at : goal.returns-else-leq-at
-returns-else-leq-at g c =
+pub returns-else-leq_at : goal.returns-else-leq_at
+returns-else-leq_at g c =
     let o = g.met.T.Ordered in
     let a = c.args in
-    least_right g.T.Ordered.leq o.total o.transitive a.items.now a.at a.len (a.at * 2 + 1) refl (omega arith) (λ d. c.if-leq-at.ensures d)
+    least_right g.T.Ordered.leq o.total o.transitive a.items.now a.at a.len (a.at * 2 + 1) refl (omega arith) (λ d. c.if-leq_at.ensures d)

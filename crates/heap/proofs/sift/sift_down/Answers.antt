@@ -11,14 +11,14 @@ loop-at-init g c = (
   downward_begins g.T.Ordered.leq c.args.items.now c.args.len c.requires.heaped,
 )
 
-pub returns-then-leq-at : goal.returns-then-leq-at
-returns-then-leq-at g c =
+pub returns-then-leq_at : goal.returns-then-leq_at
+returns-then-leq_at g c =
     let o = g.met.T.Ordered in
     let l = c.loop-at in
     record {
       same = l.invariant.1;
-      heaped = downward_rests g.T.Ordered.leq o.total o.transitive l.items l.at c.least-child-child.result c.args.len
-          c.least-child-child.ensures (λ d. c.if-leq-at.ensures d) l.invariant.2;
+      heaped = downward_rests g.T.Ordered.leq o.total o.transitive l.items l.at c.least_child-child.result c.args.len
+          c.least_child-child.ensures (λ d. c.if-leq_at.ensures d) l.invariant.2;
     }
 
 pub loop-at-preserved : goal.loop-at-preserved
@@ -26,14 +26,14 @@ loop-at-preserved g c =
     let o = g.met.T.Ordered in
     let l = c.loop-at in
     let n = c.args.len in
-    let child = c.least-child-child.result in
-    let least = c.least-child-child.ensures in
+    let child = c.least_child-child.result in
+    let least = c.least_child-child.ensures in
     let ys = c.swap.new.self in
     let told = c.swap.ensures in (
       omega arith,
       rearranged_then n c.args.items.now l.items ys l.invariant.1 (rearranged_swap n l.items ys l.at child (omega arith) (omega arith) (omega arith) told.after),
       λ d. downward_more g.T.Ordered.leq o.total o.transitive (λ k. get_or l.items k d) (λ k. get_or ys k d) l.at child n
-          least.child least.kept (λ k. least.least k d) (told.by_index.0 d, told.by_index.1 d, λ k. told.by_index.2 k d) (c.if-leq-at.ensures d) (l.invariant.2 d),
+          least.child least.kept (λ k. least.least k d) (told.by_index.0 d, told.by_index.1 d, λ k. told.by_index.2 k d) (c.if-leq_at.ensures d) (l.invariant.2 d),
     )
 
 pub returns : goal.returns

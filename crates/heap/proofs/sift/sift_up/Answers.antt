@@ -12,12 +12,12 @@ loop-at-init g c = (
   upward_begins g.T.Ordered.leq c.args.items.now c.args.start c.requires.heaped,
 )
 
-pub returns-then-leq-at : goal.returns-then-leq-at
-returns-then-leq-at g c =
+pub returns-then-leq_at : goal.returns-then-leq_at
+returns-then-leq_at g c =
     let l = c.loop-at in
     record {
       same = l.invariant.2;
-      heaped = upward_rests g.T.Ordered.leq l.items c.parent-of-parent.result l.at (c.args.start + 1) c.parent-of-parent.ensures (λ d. c.if-leq-at.ensures d) l.invariant.3;
+      heaped = upward_rests g.T.Ordered.leq l.items c.parent_of-parent.result l.at (c.args.start + 1) c.parent_of-parent.ensures (λ d. c.if-leq_at.ensures d) l.invariant.3;
     }
 
 pub loop-at-preserved : goal.loop-at-preserved
@@ -25,15 +25,15 @@ loop-at-preserved g c =
     let o = g.met.T.Ordered in
     let l = c.loop-at in
     let n = c.args.start + 1 in
-    let parent = c.parent-of-parent.result in
-    let child = c.parent-of-parent.ensures in
+    let parent = c.parent_of-parent.result in
+    let child = c.parent_of-parent.ensures in
     let ys = c.swap.new.self in
     let told = c.swap.ensures in (
       omega arith,
       omega arith,
       rearranged_then n c.args.items.now l.items ys l.invariant.2 (rearranged_swap n l.items ys parent l.at (omega arith) (omega arith) (omega arith) told.after),
       λ d. upward_more g.T.Ordered.leq o.total o.transitive (λ k. get_or l.items k d) (λ k. get_or ys k d) parent l.at n
-          child (omega arith) (told.by_index.0 d, told.by_index.1 d, λ k. told.by_index.2 k d) (c.if-leq-at.ensures d) (l.invariant.3 d),
+          child (omega arith) (told.by_index.0 d, told.by_index.1 d, λ k. told.by_index.2 k d) (c.if-leq_at.ensures d) (l.invariant.3 d),
     )
 
 pub returns : goal.returns

@@ -9,11 +9,11 @@ use Rattle.matching.proofs.channels.first_places.Goals as goal
 pub loop-place-init : goal.loop-place-init
 loop-place-init c = let long = length-blank c.args.windows.now in (refl, λ j from to. absurd (omega arith))
 
-pub overflow-cast-place : goal.overflow-cast-place
-overflow-cast-place c = let long = length-blank c.args.windows.now in omega arith
+pub overflow_cast-place : goal.overflow_cast-place
+overflow_cast-place c = let long = length-blank c.args.windows.now in omega arith
 
-pub channel-of-requires : goal.channel-of-requires
-channel-of-requires c =
+pub channel_of-requires : goal.channel_of-requires
+channel_of-requires c =
     let long = length-blank c.args.windows.now in
     let here : c.loop-place.place - 1 < length (blank c.args.windows.now) = omega arith in
     (here, (c.requires.usable (c.loop-place.place - 1) here).channel)
@@ -21,7 +21,7 @@ channel-of-requires c =
 pub loop-place-preserved : goal.loop-place-preserved
 loop-place-preserved c =
     let l = c.loop-place in
-    let told = c.channel-of.ensures in (
-      length-set l.next c.channel-of.result (l.place - 1) ∙ l.invariant.0,
+    let told = c.channel_of.ensures in (
+      length-set l.next c.channel_of.result (l.place - 1) ∙ l.invariant.0,
       rw told.0 (starts_more (blank c.args.windows.now) l.next (l.place - 1) (omega arith) (λ j from to. l.invariant.1 j (omega arith) to)),
     )

@@ -7,10 +7,10 @@ use Rattle.heap.proofs.lent.Heap.push.Goals as goal
 pub returns : goal.returns
 returns g c =
     let h = c.args.self.now in
-    let zs = c.sift-up.new.items in
-    let told = c.sift-up.ensures in
-    let long : length zs ≡ length h.items.now = c.sift-up.auto.items ∙ length-set _ _ _ in
-    let room : h.len < length h.items.now = omega (arith, c.if-is-full.ensures) in
+    let zs = c.sift_up.new.items in
+    let told = c.sift_up.ensures in
+    let long : length zs ≡ length h.items.now = c.sift_up.auto.items ∙ length-set _ _ _ in
+    let room : h.len < length h.items.now = omega (arith, c.if-is_full.ensures) in
     record {
       sound = record { room = omega arith; heaped = told.heaped };
       named = refl;

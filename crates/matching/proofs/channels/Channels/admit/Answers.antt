@@ -10,17 +10,17 @@ loop-channel-init c =
     let h = c.args.heap.now in
     (c.requires, admitted_none (blank c.args.windows.now) s.next c.args.slot s.queued, refl, refl, refl)
 
-pub admit-next-requires : goal.admit-next-requires
-admit-next-requires c = record { queued = c.loop-channel.invariant.0; channel = c.loop-channel-test.true }
+pub admit_next-requires : goal.admit_next-requires
+admit_next-requires c = record { queued = c.loop-channel.invariant.0; channel = c.loop-channel-test.true }
 
 pub loop-channel-preserved : goal.loop-channel-preserved
 loop-channel-preserved c =
     let s = c.args.self.now in
     let h = c.args.heap.now in
     let l = c.loop-channel in
-    let told = c.admit-next.ensures in (
+    let told = c.admit_next.ensures in (
       told.queued,
-      admitted_more (blank c.args.windows.now) s.next c.args.slot s.queued l.self.queued c.admit-next.new.self.queued l.channel l.invariant.1 (rw l.invariant.2 at told.admitted),
+      admitted_more (blank c.args.windows.now) s.next c.args.slot s.queued l.self.queued c.admit_next.new.self.queued l.channel l.invariant.1 (rw l.invariant.2 at told.admitted),
       told.next ∙ l.invariant.2,
       told.untouched ∙ l.invariant.3,
       told.named ∙ l.invariant.4,

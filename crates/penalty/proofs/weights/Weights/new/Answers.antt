@@ -3,5 +3,5 @@ use Rattle.std.proofs.Common.{refl, arith}
 use Rattle.penalty.proofs.Tables.{replicate_within}
 use Rattle.penalty.proofs.weights.Weights.new.Goals as goal
 
-pub invariant_of-result : goal.invariant-of-result
-invariant_of-result c = (refl, (replicate_within 64 _ 1000 (omega arith), tt))
+pub invariant_of-result : goal.invariant_of-result
+invariant_of-result c = record { long = refl; within = replicate_within 64 _ 1000 (omega arith) }
