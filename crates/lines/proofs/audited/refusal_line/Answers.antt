@@ -6,6 +6,6 @@ use Rattle.lines.proofs.audited.refusal_line.Goals as goal
 pub returns : goal.returns
 returns c =
     written (omega arith)
-    (put_then (rw (c.from.ensures ∙ c.number.ensures) at c.put-field-after-number.ensures.written)
-    (put_then c.put-value-after-value.ensures.written c.put.ensures))
+    (put_then (rw (c.from.ensures ∙ c.number.ensures) at c.put_field-after_number.ensures.written)
+    (put_then c.put_value-after_value.ensures.written c.put.ensures))
     (omega arith)

@@ -12,8 +12,8 @@ returns-then-n-lt10 t c =
     let digit = decimal_digit c.args.n c.if-n-lt10.true in
     rw digit (put_byte c.args.memory.now c.args.at (48 + c.args.n) (omega (arith, ap length digit)))
 
-pub put-number-units-requires : goal.put-number-units-requires
-put-number-units-requires t c =
+pub put_number-units-requires : goal.put_number-units-requires
+put_number-units-requires t c =
     let longer = decimal_longer c.args.n c.if-n-lt10.false (omega arith) in
     (omega arith, omega arith)
 
@@ -22,10 +22,10 @@ bounds-memory-units t c =
     let longer = decimal_longer c.args.n c.if-n-lt10.false (omega arith) in
     omega arith
 
-pub overflow-add-result-2 : goal.overflow-add-result-2
-overflow-add-result-2 t c = let room = bounds-memory-units t c in omega arith
+pub overflow_add-result-2 : goal.overflow_add-result-2
+overflow_add-result-2 t c = let room = bounds-memory-units t c in omega arith
 
 pub returns : goal.returns
 returns t c =
     rw (decimal_step c.args.n c.if-n-lt10.false (omega arith))
-    (put_then c.put-number-units.ensures (put_byte c.put-number-units.new.memory c.put-number-units.result _ (bounds-memory-units t c)))
+    (put_then c.put_number-units.ensures (put_byte c.put_number-units.new.memory c.put_number-units.result _ (bounds-memory-units t c)))

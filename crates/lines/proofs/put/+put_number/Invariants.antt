@@ -1,5 +1,5 @@
 -- The number falls to its tenth.
 use Rattle.lines.proofs.put.+put_number.Given as goal
 
-abbrev pub decreases-put-number : goal.decreases-put-number
-decreases-put-number l = l.n
+abbrev pub decreases-put_number : goal.decreases-put_number
+decreases-put_number l = l.n

@@ -5,5 +5,5 @@ use Rattle.lines.proofs.put.put.Goals as goal
 
 pub returns : goal.returns
 returns c =
-    rw c.copy-from-slice.ensures.after
+    rw c.copy_from_slice.ensures.after
     (put_part c.args.memory.now c.args.text.now c.args.at _ (omega arith) c.requires)

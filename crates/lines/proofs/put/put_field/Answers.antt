@@ -4,8 +4,8 @@ use Rattle.std.proofs.lemmas.Fmt.{length-decimal-le}
 use Rattle.lines.proofs.Puts.{put_then}
 use Rattle.lines.proofs.put.put_field.Goals as goal
 
-pub put-number-requires : goal.put-number-requires
-put-number-requires c =
+pub put_number-requires : goal.put_number-requires
+put_number-requires c =
     let few = length-decimal-le 20 c.args.n (omega arith) (omega arith) (omega arith) in
     omega arith
 
@@ -13,6 +13,6 @@ pub returns : goal.returns
 returns c =
     let few = length-decimal-le 20 c.args.n (omega arith) (omega arith) (omega arith) in
     record {
-      written = put_then c.put-digits.ensures c.put-number.ensures;
+      written = put_then c.put-digits.ensures c.put_number.ensures;
       bound = omega arith;
     }

@@ -10,7 +10,7 @@ loop-i-preserved c =
     let input = c.args.input.now in
     let row = c.loop-i.row in
     let i = c.loop-i.i in
-    let read = c.from-be-bytes.result in
+    let read = c.from_be_bytes.result in
     let number : read ≡ 256 * get_or input (2 * i) 0 + get_or input (2 * i + 1) 0 = omega arith in (
       length-set row i read ∙ c.loop-i.invariant.0,
       take_more_set row i read (omega arith) ∙ ap (λ l. l ++ read ∷ []) c.loop-i.invariant.1 ∙ rw number (sym (numbers_more input i (omega arith))),

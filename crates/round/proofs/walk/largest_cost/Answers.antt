@@ -12,8 +12,8 @@ loop-i-init g c =
     let found = c.scan-found.ensures c.args.list.now (omega arith) counted (λ j b m. ⊎_elim (λ p. omega arith) (λ e. omega arith) m.1) in
     (refl, counted, found)
 
-pub count-slot-requires : goal.count-slot-requires
-count-slot-requires g c =
+pub count_slot-requires : goal.count_slot-requires
+count_slot-requires g c =
     let list = c.args.list.now in
     let t = c.args.readings.now.by_channel in
     let i = c.loop-i.i in
@@ -25,11 +25,11 @@ loop-i-preserved g c =
     let t = c.args.readings.now.by_channel in
     let i = c.loop-i.i in
     let below = channel_below t (get_or list i 0) (complete_known t list c.requires.1 i c.loop-i-test.true) in
-    let counted : Counted c.count-slot.new.counts list (i + 1) =
-    rw c.count-slot.ensures (counted_more c.loop-i.counts list i (get_or list i 0) c.loop-i-test.true refl (omega arith) c.loop-i.invariant.1) in
-    let slot = c.slot-at.result in
+    let counted : Counted c.count_slot.new.counts list (i + 1) =
+    rw c.count_slot.ensures (counted_more c.loop-i.counts list i (get_or list i 0) c.loop-i-test.true refl (omega arith) c.loop-i.invariant.1) in
+    let slot = c.slot_at.result in
     let found = found_at _ t (i + 1) slot c.loop-i.found (omega arith) c.loop-i.invariant.2 in
-    let more = c.scan-found-in-loop-i.ensures list (omega arith) (rw c.slot-at.ensures counted) found in
+    let more = c.scan-found-in-loop-i.ensures list (omega arith) (rw c.slot_at.ensures counted) found in
     (omega arith, counted, found_at _ t (slot + 1) (i + 1 + 1) c.scan-found-in-loop-i.result (omega arith) more)
 
 pub unwrap-requires : goal.unwrap-requires

@@ -14,9 +14,9 @@ loop-channel-preserved g c list inside agree before =
     let old = c.loop-channel.invariant list inside agree before in
     elim c.if-of-gt0.branch [
       | then-of-gt0 w ↦
-          let is : w.cost-after-cost.result ≡ cost_at f t list slot channel = w.cost-after-cost.ensures ∙ ap (λ x. f (sum t) channel (readings t channel) x slot) (agree channel) in
+          let is : w.cost_after-cost.result ≡ cost_at f t list slot channel = w.cost_after-cost.ensures ∙ ap (λ x. f (sum t) channel (readings t channel) x slot) (agree channel) in
           rw (w.found-is, w.larger.ensures)
-          (found_more (cost_at f t list) (Moment t) slot channel (inside, omega arith) w.cost-after-cost.result is c.loop-channel.found old)
+          (found_more (cost_at f t list) (Moment t) slot channel (inside, omega arith) w.cost_after-cost.result is c.loop-channel.found old)
       | else-of-gt0 w ↦
           rw w.found-is (found_skip (cost_at f t list) (Moment t) slot channel (λ m. omega (arith, m.1)) c.loop-channel.found old)
     ]

@@ -18,7 +18,7 @@ returns-in-Some c =
     let table = c.args.self.now.by_channel in
     let list = c.args.list.now in
     let channel = c.in-Some.channel in
-    let told = c.in-ok-counts.ensures in
+    let told = c.in_ok-counts.ensures in
     let found = c.in-Some.ensures in
     let other : times channel list ≢ readings table channel = λ e. found.0 (told.1 channel ∙ e) in
     wrong_count table list (omega arith) (omega arith) (omega arith) (omega arith) told.2 channel other
@@ -27,7 +27,7 @@ returns-in-Some c =
 pub returns-in-None : goal.returns-in-None
 returns-in-None c =
     let table = c.args.self.now.by_channel in
-    let told = c.in-ok-counts.ensures in (
+    let told = c.in_ok-counts.ensures in (
       record { long = omega arith; some = some_channel table (omega arith); few = omega arith },
       record { full = omega arith; each = λ b. sym (told.1 b) ∙ c.in-None.ensures b },
     )

@@ -12,12 +12,12 @@ loop-i-init c = (refl, counted_none 64 c.args.list.now, λ j h. absurd (omega ar
 pub returns-then-of-eq0 : goal.returns-then-of-eq0
 returns-then-of-eq0 c =
     let table = c.args.self.now in
-    rw c.slot-at.ensures
+    rw c.slot_at.ensures
     (not_a_channel table.by_channel c.args.list.now (omega arith) (omega arith) c.requires.0 c.requires.1
     c.loop-i.i c.loop-i-test.true (omega arith) c.loop-i.invariant.2)
 
-pub count-slot-requires : goal.count-slot-requires
-count-slot-requires c =
+pub count_slot-requires : goal.count_slot-requires
+count_slot-requires c =
     count_room c.args.self.now.by_channel c.loop-i.counts c.args.list.now c.loop-i.i (get_or c.args.list.now c.loop-i.i 0)
     (omega arith) (omega arith) (omega arith) c.loop-i.invariant.1
 
@@ -27,7 +27,7 @@ loop-i-preserved c =
     let i = c.loop-i.i in
     let below = channel_below c.args.self.now.by_channel (get_or list i 0) (omega arith) in (
       omega arith,
-      rw c.count-slot.ensures (counted_more c.loop-i.counts list i (get_or list i 0) c.loop-i-test.true refl (omega arith) c.loop-i.invariant.1),
+      rw c.count_slot.ensures (counted_more c.loop-i.counts list i (get_or list i 0) c.loop-i-test.true refl (omega arith) c.loop-i.invariant.1),
       below_more _ _ c.loop-i.invariant.2 (omega arith),
     )
 
