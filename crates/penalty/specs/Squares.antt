@@ -1,6 +1,6 @@
 -- The largest number that passes a test, and square roots, rounded down, as such numbers.
-use Rattle.std.proofs.Common.{◌≡◌, ℕ, zero, suc, ◌+◌, ◌*◌, ◌<◌, ◌≤◌, Bool, true, ◌&&◌, ltb, leb, List, length, get_or, sym, ◌∙◌, subst, ⊎_elim, le_of_suc-le-suc, mul-le-mul, le_antisymm, eq-or-lt_of_le, arith}
-use Rattle.std.proofs.lemmas.Bool.{cases_Bool, cases_lt, true≢false, and_parts, leb-true, ltb-true, le-leb}
+use Rattle.std.proofs.Common.{◌≡◌, ℕ, zero, suc, ◌*◌, ◌≤◌, Bool, true, leb, sym, ◌∙◌, subst, ⊎_elim, le_of_suc-le-suc, mul-le-mul, eq-or-lt_of_le, arith}
+use Rattle.std.proofs.lemmas.Bool.{cases_Bool, true≢false, leb-true, le-leb}
 use Rattle.penalty.specs.TwoSided.{largest, root}
 use Rattle.penalty.specs.Rising.{Rising}
 
