@@ -1,6 +1,6 @@
 -- For callers: what holds of the elements that are kept, and sums over them, after a push and after a pop.
 use Rattle.std.proofs.Common.{◌≡◌, ℕ, ◌+◌, Bool, List, ◌∷◌, take, sum_by, sym, ◌∙◌}
-use Rattle.std.specs.List.{AllByRecursion as All}
+use Rattle.std.specs.List.{AllByRecursion}
 use Rattle.std.proofs.lemmas.List.Sorted.{sum_by-IsPermutation}
 use Rattle.std.proofs.ByRecursion.{all_shuffled}
 use Rattle.std.proofs.lemmas.List.Sums.{sum_by-cons}
@@ -12,7 +12,7 @@ module _ {X : Type 0} (x : X) (xs : List X) (n : ℕ) (ys : List X) (m : ℕ) wh
   pushed_sum p f = sum_by-IsPermutation f (x ∷ take n xs) (take m ys) p.kept ∙ sum_by-cons f x (take n xs)
 
   -- what holds of the element and of all that was kept holds of all that is kept after a push
-  pub pushed_all : Pushed x xs n ys m → (P : X → Type 0) → P x → All P (take n xs) → All P (take m ys)
+  pub pushed_all : Pushed x xs n ys m → (P : X → Type 0) → P x → AllByRecursion P (take n xs) → AllByRecursion P (take m ys)
   pushed_all p P here all = all_shuffled P (x ∷ take n xs) (take m ys) p.kept (here, all)
 
   module _ (leq : X → X → Bool) where
@@ -21,5 +21,5 @@ module _ {X : Type 0} (x : X) (xs : List X) (n : ℕ) (ys : List X) (m : ℕ) wh
     popped_sum p f = sym (sum_by-cons f x (take m ys)) ∙ sum_by-IsPermutation f (take n xs) (x ∷ take m ys) p.kept
 
     -- what held of all that was kept holds of the element and of all that is kept after a pop
-    pub popped_all : Popped leq x xs n ys m → (P : X → Type 0) → All P (take n xs) → P x × All P (take m ys)
+    pub popped_all : Popped leq x xs n ys m → (P : X → Type 0) → AllByRecursion P (take n xs) → P x × AllByRecursion P (take m ys)
     popped_all p P all = all_shuffled P (take n xs) (x ∷ take m ys) p.kept all

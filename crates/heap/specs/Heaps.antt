@@ -2,7 +2,7 @@
 -- that x may come out before y.
 use Rattle.std.specs.Prelude.{◌≡◌, ℕ, ◌+◌, ◌*◌, ◌<◌, ◌≤◌, Bool, true, List, ◌∷◌, length, take, drop, slice_index_or}
 use Rattle.std.specs.List.Sorted.{IsPermutation}
-use Rattle.std.specs.List.{AllByRecursion as All}
+use Rattle.std.specs.List.{AllByRecursion}
 
 -- place k is a child of place p
 pub record Child (p k : ℕ) : Type 0 where
@@ -37,7 +37,7 @@ pub record Rearranged {X : Type 0} (n : ℕ) (xs ys : List X) : Type 0 where
 pub record First {X : Type 0} (leq : X → X → Bool) (x : X) (xs : List X) (n : ℕ) : Type 0 where
   pub some : 0 < n
   pub front : x ≡ slice_index_or xs 0 x
-  pub before : All (λ y. leq x y ≡ true) (take n xs)
+  pub before : AllByRecursion (λ y. leq x y ≡ true) (take n xs)
 
 -- x is kept besides what was kept, and the memory past what is kept is untouched
 pub record Pushed {X : Type 0} (x : X) (xs : List X) (n : ℕ) (ys : List X) (m : ℕ) : Type 0 where

@@ -1,6 +1,6 @@
 -- Counting the elements of a list that pass a test.
 use Rattle.std.proofs.Common.{◌≡◌, ℕ, zero, suc, ◌+◌, ◌<◌, ◌≤◌, Bool, true, false, cond, not, ◌&&◌, eqb, ltb, List, [], ◌∷◌, map, length, get_or, count_by, sym, refl, ap, ◌∙◌, ⊎_elim, arith}
-use Rattle.std.specs.List.{range_with_len, AllByRecursion as All}
+use Rattle.std.specs.List.{range_with_len, AllByRecursion}
 use Rattle.std.proofs.lemmas.List.FromFn.{fill_by_all, get_or-range_with_len, length-range_with_len}
 use Rattle.std.proofs.ByRecursion.{All-weaker}
 use Rattle.std.proofs.lemmas.List.Sums.{get_or-le-sum_by, sum_by-cons}
@@ -87,7 +87,7 @@ module _ {X : Type 0} where
       not-false (p (get_or xs i d)) (count_none (λ x. not (p x)) xs i d (omega arith) h)
 
   -- a test that every element passes counts them all
-  count_every : (p : X → Bool) (xs : List X) → All (λ x. p x ≡ true) xs → count_by p xs ≡ length xs
+  count_every : (p : X → Bool) (xs : List X) → AllByRecursion (λ x. p x ≡ true) xs → count_by p xs ≡ length xs
   count_every p [] all = refl
   count_every p (x ∷ xs) all =
       let rest = count_every p xs all.1 in
@@ -140,7 +140,7 @@ module _ {X : Type 0} where
         omega (arith, keys_below xs m some)
 
   -- a list whose elements have different keys below m has at most m elements
-  pub few_keys : (f : X → ℕ) (m : ℕ) (xs : List X) → All (λ x. f x < m) xs →
+  pub few_keys : (f : X → ℕ) (m : ℕ) (xs : List X) → AllByRecursion (λ x. f x < m) xs →
       ((k : ℕ) → count_by (λ x. eqb (f x) k) xs ≤ 1) → length xs ≤ m
   few_keys f m xs below apart =
       let tested = All-weaker (λ x. f x < m) (λ x. ltb (f x) m ≡ true) (λ x h. lt-ltb (f x) m h) xs below in

@@ -1,6 +1,6 @@
 -- The queue of ready readings after a push and after a pop.
 use Rattle.std.proofs.Common.{◌≡◌, ℕ, ◌+◌, ◌-◌, ◌<◌, ◌≤◌, Bool, true, false, cond, ◌⊎◌, List, [], ◌∷◌, length, get_or, take, drop, set, replicate, Some, count_by, sym, refl, ap, ◌∙◌, subst, inl, inr, ⊎_elim, arith}
-use Rattle.std.specs.List.{AllByRecursion as All}
+use Rattle.std.specs.List.{AllByRecursion}
 use Rattle.std.proofs.ByRecursion.{All-from_get_or, All-get_or, All-weaker}
 use Rattle.std.proofs.lemmas.List.{drop-drop, get_or_past, get_or-replicate, get_or-set_other, get_or-set_same, length-set, length-take-le}
 use Rattle.std.proofs.lemmas.Bool.{cases_Bool, cases_eq, cases_lt, eq-eqb, eqb-false, eqb-true}
@@ -30,7 +30,7 @@ module _ (bs : List Window) (next : List ℕ) (queued : List Bool) (items : List
   kept_long = length-take-le len items q.sound.room
 
   -- all of them are of channels up to 63
-  kept_below : All (λ r. channel_at bs r.place < 64) (take len items)
+  kept_below : AllByRecursion (λ r. channel_at bs r.place < 64) (take len items)
   kept_below = All-weaker (Next bs next) (λ r. channel_at bs r.place < 64) (λ r is. is.channel) (take len items) q.all_next
 
   -- no two are of the same channel, so there are at most 64
@@ -218,7 +218,7 @@ queue_begins bs next items len sound none room long =
       room = room;
       next_long = long;
       queued_long = refl;
-      all_next = subst (All (Next bs next)) (sym empty) tt;
+      all_next = subst (AllByRecursion (Next bs next)) (sym empty) tt;
       once = λ c. ap (count_by (of_channel bs c)) empty ∙ sym (ap (λ b. cond b 1 0) (no_mark c));
     }
 

@@ -1,7 +1,7 @@
 -- What the queue of ready readings holds: for each channel number the place of its next reading, a mark whether that
 -- reading is in the heap, and the heap. These definitions serve the proofs only; bs are the records without slots.
 use Rattle.std.specs.Prelude.{◌≡◌, ℕ, ◌+◌, ◌<◌, ◌≤◌, Bool, true, false, cond, ◌⊎◌, List, length, take, Some, None, count_by, Option, ◌==◌, ◌≢◌, slice_index, slice_index_or, slice_set}
-use Rattle.std.specs.List.{AllByRecursion as All}
+use Rattle.std.specs.List.{AllByRecursion}
 use Rattle.heap.specs.Heaps.{Sound}
 use Rattle.matching.specs.Ready.{due}
 use Rattle.matching.specs.Windows.{window}
@@ -37,7 +37,7 @@ pub record Queued (bs : List Window) (next : List ℕ) (queued : List Bool) (ite
   pub room : 64 ≤ length items
   pub next_long : length next ≡ 64
   pub queued_long : length queued ≡ 64
-  pub all_next : All (Next bs next) (take len items)
+  pub all_next : AllByRecursion (Next bs next) (take len items)
   pub once : (c : ℕ) → count_by (of_channel bs c) (take len items) ≡ cond (is_queued queued c) 1 0
 
 -- the next reading of the channel of place j is at j or before it, and is of that channel
