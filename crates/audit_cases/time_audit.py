@@ -5,7 +5,7 @@ import subprocess
 import time
 from pathlib import Path
 
-PROGRAM = Path(__file__).parents[2] / "target" / "bin" / "audit"
+PROGRAM = Path(__file__).parents[1] / "audit" / "out" / "audit"
 INPUT = (64).to_bytes(2, "big") * 64 + bytes(range(64)) * 64
 RUNS = 200
 

@@ -9,7 +9,7 @@ import subprocess
 import time
 from pathlib import Path
 
-PROGRAM = Path(__file__).parents[2] / "target" / "bin" / "matching_cases"
+PROGRAM = Path(__file__).parent / "out" / "matching_cases"
 CHANNELS, READINGS = 64, 64
 SLOTS = CHANNELS * READINGS
 BOUND = SLOTS - 1

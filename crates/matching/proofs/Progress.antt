@@ -71,8 +71,8 @@ module _ (n : ℕ) (e l s : ℕ → ℕ) (t : ℕ) (p : Progress n e l s t) (fir
   late_after k g later due =
       let one = first k g in
       ⊎_elim
-      (λ after-a. after-a)
-      (λ up-to-a.
+      (λ after_a. after_a)
+      (λ up_to_a.
       ⊎_elim
       (λ none. omega arith)
       (λ r.

@@ -1,5 +1,5 @@
 -- One slot more: the reading that the queue gives is placed in it, or an interval of slots is crowded.
-use Rattle.std.proofs.Common.{◌≡◌, ℕ, ◌+◌, ◌-◌, ◌<◌, ◌≤◌, Bool, true, false, cond, not, ltb, leb, ◌⊎◌, List, [], length, set, count_by as countBy, sym, ap, ◌∙◌, subst, inl, inr, ⊎_elim, arith}
+use Rattle.std.proofs.Common.{◌≡◌, ℕ, ◌+◌, ◌-◌, ◌<◌, ◌≤◌, Bool, true, false, cond, not, ltb, leb, ◌⊎◌, List, [], length, set, count_by, sym, ap, ◌∙◌, subst, inl, inr, ⊎_elim, arith}
 use Rattle.std.proofs.lemmas.List.{get_or_past, get_or-set_other, get_or-set_same, length-set}
 use Rattle.std.proofs.lemmas.List.Sums.{sum_by-set}
 use Rattle.std.proofs.lemmas.Bool.{and_from, and_parts, both_ways, cases_eq, cases_lt, le-leb, le-ltb, leb-true, lt-ltb, ltb-false, not-true}
@@ -156,12 +156,12 @@ module _ (bs ws : List Window) (t : ℕ) (next : List ℕ) (queued : List Bool) 
       slot_other k other = ap (λ (l : List Window). (window l k).slot) is ∙ ap (λ (w : Window). w.slot) (get_or-set_other ws r.place k (with_slot (window ws r.place) (t + 1)) (window [] 0) other)
 
       -- one record more has a slot
-      one_more : countBy has_slot ws' ≡ t + 1
+      one_more : count_by has_slot ws' ≡ t + 1
       one_more =
           let change = sum_by-set (λ w. cond (has_slot w) 1 0) ws r.place (with_slot (window ws r.place) (t + 1)) (window [] 0) there in
           let before : has_slot (window ws r.place) ≡ false = le-ltb 0 (window ws r.place).slot (omega (arith, out_free)) in
           let after : ltb 0 (t + 1) ≡ true = lt-ltb 0 (t + 1) (omega arith) in
-          ap (countBy has_slot) is ∙ (let total = state.slots.counted in grind arith)
+          ap (count_by has_slot) is ∙ (let total = state.slots.counted in grind arith)
 
       -- so slot t + 1 is filled
       filled_more : t + 1 ≤ (window bs r.place).latest → Filled bs ws' (t + 1)

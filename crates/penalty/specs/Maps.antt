@@ -38,7 +38,7 @@ module _ {m : ℕ → ℕ → ℕ} {f : Cost} (map : (c : ℕ) → CostMap (m c)
       omega (arith, s))
       (cases_lt (f S c d u k) (f S c d w k))
 
--- where m never falls, and is at most the forbidden cost up to it, keep-top m is such a map
+-- where m never falls, and is at most the forbidden cost up to it, keep_top m is such a map
 keep_map : (m : ℕ → ℕ) → Rising m → ((n : ℕ) → n ≤ top → m n ≤ top) → CostMap (keep_top m)
 keep_map m rising capped = record {
   rising = λ a b l.

@@ -1,6 +1,6 @@
 // The two-sided bottom: being behind the even share costs by another scale than being ahead of it.
 ghost use Rattle.std.specs.Prelude.{◌≡◌, ◌≤◌};
-ghost use Rattle.penalty.specs.TwoSided.{two_sided, step as step_of_lem};
+ghost use Rattle.penalty.specs.TwoSided.{two_sided, step as step_of};
 ghost use Rattle.penalty.specs.TwoSidedLaws.{two_sided_capped, two_sided_valley};
 ghost use Rattle.std.proofs.Common.{rules};
 
@@ -43,7 +43,7 @@ impl Penalty for TwoSided {
 // The step of a q of this size: how many whole eighths of a reading it is, but at most 255.
 fn step(size: u32, slots: u16) -> u8
     requires { 1 ≤ slots }
-    ensures { result ≡ step_of_lem slots size }
+    ensures { result ≡ step_of slots size }
 {
     (8 * u64::from(size) / u64::from(slots)).min(255) as u8
 }

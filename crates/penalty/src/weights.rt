@@ -1,5 +1,5 @@
 // The weights of the channels, which a layer puts over a penalty.
-ghost use Rattle.std.specs.Prelude.{◌≡◌, ℕ, ◌≤◌, length, replicate, Ok, Err, slice_index_or, slice_set};
+ghost use Rattle.std.specs.Prelude.{◌≡◌, ℕ, ◌≤◌, length, replicate, Ok, Err, slice_index, slice_set};
 ghost use Rattle.penalty.specs.Settings.{WeightFault, Accepted, Refused};
 
 use crate::interface::CHANNELS;
@@ -15,7 +15,7 @@ pub struct Weights {
     // A weight for each channel number.
     ghost long: { length by_channel ≡ 64 },
     // No weight is above 1,000.
-    ghost within: { (c : ℕ) → slice_index_or by_channel c 0 ≤ 1000 },
+    ghost within: { (c : ℕ) → slice_index by_channel c ≤ 1000 },
 }
 
 impl Weights {
@@ -48,7 +48,7 @@ impl Weights {
     // The weight of a channel.
     pub(crate) fn of(&self, channel: u8) -> u16
         requires { channel ≤ 63 }
-        ensures { (result ≡ slice_index_or self.now.by_channel channel 0) × (result ≤ 1000) }
+        ensures { (result ≡ slice_index self.now.by_channel channel) × (result ≤ 1000) }
     {
         self.by_channel[usize::from(channel)]
     }

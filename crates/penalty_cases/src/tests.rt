@@ -1,7 +1,7 @@
 // The worked tables and audits of docs/RULES.md, costs at the caps, refused settings, and depths.
 ghost use Rattle.std.specs.Prelude.{◌≤◌};
 ghost use Rattle.penalty.specs.Cost.{bottom};
-ghost use Rattle.std.proofs.Common.{rules, arith};
+ghost use Rattle.std.proofs.Common.{rules};
 
 use penalty::{
     AbsoluteDeviation, Banded, Penalty, SettingRefusal, Stopped, TOP, Threshold, TwoSided,
@@ -23,11 +23,11 @@ impl Penalty for Constant {
 
     ghost depth = { λ p. p.depth };
 
-    ghost capped = { first_of (Prim.search rules, Prim.grind (arith, Self.row.coded.inj)) };
+    ghost capped = { Prim.search rules };
 
-    ghost outside = { first_of (Prim.search rules, Prim.grind (arith, Self.row.coded.inj)) };
+    ghost outside = { Prim.search rules };
 
-    ghost valley = { first_of (Prim.search rules, Prim.grind (arith, Self.row.coded.inj)) };
+    ghost valley = { Prim.search rules };
 
     fn cost(&self, slots: u16, channel: u8, readings: u16, count: u16, slot: u16) -> u64 {
         if !in_domain(slots, channel, readings, count, slot) {

@@ -26,12 +26,12 @@ returns-then-is_late c =
     let h = c.args.heap.now in
     let ws = c.args.windows.now in
     let told = c.in-Some.ensures in
-    let told-crowd = c.crowd_upto.ensures in
+    let told_crowd = c.crowd_upto.ensures in
     record {
       windows = refl;
-      step = rw told-crowd.2
+      step = rw told_crowd.2
           (step_late (blank ws) ws c.args.filled q.next q.queued h.items.now h.len c.requires.state c.admit.new.self.queued c.admit.ensures.admitted
-          c.take.new.self.next c.take.new.self.queued c.in-Some.reading (rw c.admit.ensures.next at told.taken) c.if-is_late.ensures told-crowd.0 told-crowd.1);
+          c.take.new.self.next c.take.new.self.queued c.in-Some.reading (rw c.admit.ensures.next at told.taken) c.if-is_late.ensures told_crowd.0 told_crowd.1);
       untouched = told.untouched ∙ c.admit.ensures.untouched;
       named = told.named ∙ c.admit.ensures.named;
     }
