@@ -36,7 +36,7 @@ fn main(rt: HostRuntime) -> io::Result<()> {
 
 #[cfg(test)]
 mod tests {
-    use penalty::{AbsoluteDeviation, Penalty, TOP};
+    use penalty::{AbsoluteDeviation, Penalty, Question, TOP};
     use round::{Largest, Refusal, audit};
 
     // The audit of readings for channels 0 and 1.
@@ -87,22 +87,33 @@ mod tests {
         );
     }
 
+    // The cost of a question under the absolute deviation.
+    fn cost(slots: u16, channel: u8, readings: u16, count: u16, slot: u16) -> u64 {
+        AbsoluteDeviation.cost(Question {
+            slots,
+            channel,
+            readings,
+            count,
+            slot,
+        })
+    }
+
     #[test]
     fn costs(rt: HostRuntime) {
-        assert_eq!(rt; AbsoluteDeviation.cost(3, 0, 2, 1, 1), 1);
-        assert_eq!(rt; AbsoluteDeviation.cost(3, 0, 2, 0, 1), 2);
-        assert_eq!(rt; AbsoluteDeviation.cost(4096, 63, 4096, 4096, 0), 16_777_216);
+        assert_eq!(rt; cost(3, 0, 2, 1, 1), 1);
+        assert_eq!(rt; cost(3, 0, 2, 0, 1), 2);
+        assert_eq!(rt; cost(4096, 63, 4096, 4096, 0), 16_777_216);
         assert_eq!(rt; AbsoluteDeviation.depth(), 0);
     }
 
     #[test]
     fn forbids_outside_the_domain(rt: HostRuntime) {
-        assert_eq!(rt; AbsoluteDeviation.cost(0, 0, 1, 0, 0), TOP);
-        assert_eq!(rt; AbsoluteDeviation.cost(4097, 0, 1, 0, 0), TOP);
-        assert_eq!(rt; AbsoluteDeviation.cost(3, 64, 2, 1, 1), TOP);
-        assert_eq!(rt; AbsoluteDeviation.cost(3, 0, 0, 0, 1), TOP);
-        assert_eq!(rt; AbsoluteDeviation.cost(3, 0, 4097, 1, 1), TOP);
-        assert_eq!(rt; AbsoluteDeviation.cost(3, 0, 2, 3, 1), TOP);
-        assert_eq!(rt; AbsoluteDeviation.cost(3, 0, 2, 1, 4), TOP);
+        assert_eq!(rt; cost(0, 0, 1, 0, 0), TOP);
+        assert_eq!(rt; cost(4097, 0, 1, 0, 0), TOP);
+        assert_eq!(rt; cost(3, 64, 2, 1, 1), TOP);
+        assert_eq!(rt; cost(3, 0, 0, 0, 1), TOP);
+        assert_eq!(rt; cost(3, 0, 4097, 1, 1), TOP);
+        assert_eq!(rt; cost(3, 0, 2, 3, 1), TOP);
+        assert_eq!(rt; cost(3, 0, 2, 1, 4), TOP);
     }
 }

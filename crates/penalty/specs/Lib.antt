@@ -5,6 +5,7 @@ pub mod Cost
 pub mod Deviation
 pub mod Layers
 pub mod Maps
+pub mod Question
 pub mod Rising
 pub mod Scales
 pub mod Settings

@@ -1,7 +1,8 @@
 -- The settings of the layers: when one is refused, and by which number.
-use Rattle.std.specs.Prelude.{ℕ, ◌<◌}
+use Rattle.std.specs.Prelude.{◌≡◌, ℕ, ◌<◌, Ok, Err, Result}
 use Rattle.penalty.specs.declared.settings.SettingRefusal.{SettingRefusal}
 use Rattle.penalty.specs.declared.settings.SettingRefusal.TheVariants.{ChannelAboveLimit, WeightAboveLimit, ThresholdAboveLimit}
+use Rattle.penalty.specs.declared.threshold.Threshold.{Threshold}
 
 -- the number of a refusal
 abbrev pub number : SettingRefusal → ℕ
@@ -29,3 +30,8 @@ Accepted Fault = (e : SettingRefusal) → Fault e → ⊥
 pub record Refused (Fault : SettingRefusal → Type 0) (e : SettingRefusal) : Type 0 where
   pub fault : Fault e
   pub first : (s : SettingRefusal) → number s < number e → Fault s → ⊥
+
+-- what is made of a number n: a tolerance or a limit of this value, or a refusal
+abbrev pub IsThreshold : ℕ → Result Threshold SettingRefusal → Type 0
+IsThreshold n (Ok threshold) = Accepted (ThresholdFault n) × (threshold.value ≡ n)
+IsThreshold n (Err e) = Refused (ThresholdFault n) e

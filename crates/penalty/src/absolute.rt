@@ -4,9 +4,9 @@ ghost use Rattle.std.proofs.Common.{rules};
 ghost use Rattle.penalty.specs.Deviation.{size};
 ghost use Rattle.penalty.specs.Bottoms.{bottom_valley, size_valley};
 
-use crate::deviation::deviation_of;
-use crate::domain::in_domain;
+use crate::deviation::Deviation;
 use crate::interface::{Penalty, TOP};
+use crate::question::Question;
 
 /// The size of S·x − k·d.
 #[derive(Clone, Copy)]
@@ -23,11 +23,11 @@ impl Penalty for AbsoluteDeviation {
 
     ghost valley = { λ p. bottom_valley size (λ S c d x k. Prim.search rules) size_valley };
 
-    fn cost(&self, slots: u16, channel: u8, readings: u16, count: u16, slot: u16) -> u64 {
-        if !in_domain(slots, channel, readings, count, slot) {
+    fn cost(&self, question: Question) -> u64 {
+        if !question.in_domain() {
             return TOP;
         }
-        let q = deviation_of(slots, readings, count, slot);
+        let q = Deviation::of(question);
         u64::from(q.ahead) + u64::from(q.behind)
     }
 

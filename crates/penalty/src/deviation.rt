@@ -2,6 +2,8 @@
 ghost use Rattle.std.specs.Prelude.{◌≡◌};
 ghost use Rattle.penalty.specs.Deviation.{ahead as ahead_of, behind as behind_of};
 
+use crate::question::Question;
+
 /// The two parts of q, of which one is 0: q where it is above zero, and -q where it is below.
 #[derive(Clone, Copy)]
 pub(crate) struct Deviation {
@@ -9,14 +11,17 @@ pub(crate) struct Deviation {
     pub(crate) behind: u32,
 }
 
-/// How far `count` readings in the first `slot` slots are from the even share.
-pub(crate) fn deviation_of(slots: u16, readings: u16, count: u16, slot: u16) -> Deviation
-    ensures { (result.ahead ≡ ahead_of slots readings count slot) × (result.behind ≡ behind_of slots readings count slot) }
-{
-    let taken = u32::from(slots) * u32::from(count);
-    let due = u32::from(slot) * u32::from(readings);
-    Deviation {
-        ahead: taken.saturating_sub(due),
-        behind: due.saturating_sub(taken),
+impl Deviation {
+    /// How far the count of a question is from the even share.
+    pub(crate) fn of(question: Question) -> Deviation
+        ensures ahead { result.ahead ≡ ahead_of question.slots question.readings question.count question.slot }
+        ensures behind { result.behind ≡ behind_of question.slots question.readings question.count question.slot }
+    {
+        let taken = u32::from(question.slots) * u32::from(question.count);
+        let due = u32::from(question.slot) * u32::from(question.readings);
+        Deviation {
+            ahead: taken.saturating_sub(due),
+            behind: due.saturating_sub(taken),
+        }
     }
 }

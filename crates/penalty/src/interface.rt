@@ -1,6 +1,9 @@
 // The interface of all penalties: what a moment costs, by the laws that every penalty keeps.
 ghost use Rattle.std.specs.Prelude.{◌≡◌, ℕ};
 ghost use Rattle.penalty.specs.Cost.{Cost, Capped, Outside, Valley};
+ghost use Rattle.penalty.specs.Question.{asked};
+
+use crate::question::Question;
 
 /// How many channel numbers there are, 0 to 63.
 pub const CHANNELS: usize = 64;
@@ -19,10 +22,9 @@ pub trait Penalty {
     // How many layers lie over the bottom, but at most 255; no law ties it to the layers.
     ghost depth: { Self → ℕ };
 
-    /// What it costs that `channel`, with `readings` in a round of `slots` slots, stands `count`
-    /// times in the first `slot` slots, 0 before the first slot.
-    fn cost(&self, slots: u16, channel: u8, readings: u16, count: u16, slot: u16) -> u64
-        ensures { result ≡ cost self.now slots channel readings count slot };
+    /// The cost of what is asked.
+    fn cost(&self, question: Question) -> u64
+        ensures { result ≡ asked (cost self.now) question };
 
     /// How many layers lie over the bottom, but at most 255.
     fn depth(&self) -> u8

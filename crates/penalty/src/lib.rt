@@ -2,26 +2,26 @@
 #![tactic(auto)]
 
 mod absolute;
-mod banded;
+mod band;
 mod deviation;
-mod domain;
 mod interface;
+mod layer;
+mod question;
 mod root_table;
 mod settings;
-mod stopped;
+mod stop;
 mod threshold;
 mod two_sided;
-mod weighted;
 mod weights;
 
 pub use absolute::AbsoluteDeviation;
-pub use banded::Banded;
-pub use domain::in_domain;
+pub use band::Band;
 pub use interface::{CHANNELS, LIMIT, Penalty, TOP};
+pub use layer::{Layer, Layered};
+pub use question::Question;
 pub use root_table::roots;
 pub use settings::SettingRefusal;
-pub use stopped::Stopped;
+pub use stop::Stop;
 pub use threshold::{LARGEST_SIZE, Threshold};
 pub use two_sided::TwoSided;
-pub use weighted::Weighted;
 pub use weights::{LARGEST_WEIGHT, Weights};

@@ -1,6 +1,5 @@
 // The tolerance of a band and the limit of a stop: numbers as large as a size of q can be.
-ghost use Rattle.std.specs.Prelude.{◌≡◌, ◌≤◌, Ok, Err};
-ghost use Rattle.penalty.specs.Settings.{ThresholdFault, Accepted, Refused};
+ghost use Rattle.std.specs.Prelude.{◌≡◌, ◌≤◌};
 
 use crate::settings::SettingRefusal;
 
@@ -14,20 +13,23 @@ pub struct Threshold {
     ghost within: { value ≤ 16777216 },
 }
 
-impl Threshold {
-    /// The tolerance or limit of this value, unless it is refused with 10.
-    pub fn new(value: u32) -> Result<Threshold, SettingRefusal>
-        ensures { elim result [
-          | Ok threshold ↦ Accepted (ThresholdFault value) × (threshold.value ≡ value)
-          | Err e ↦ Refused (ThresholdFault value) e
-        ] }
-    {
+/// The tolerance or limit of a value, unless it is refused with 10.
+impl TryFrom<u32> for Threshold {
+    ghost use Rattle.penalty.specs.Settings.{IsThreshold};
+
+    type Error = SettingRefusal;
+
+    ghost try_from_gives = { IsThreshold };
+
+    fn try_from(value: u32) -> Result<Threshold, SettingRefusal> {
         if value > LARGEST_SIZE {
             return Err(SettingRefusal::ThresholdAboveLimit);
         }
         Ok(Threshold { value })
     }
+}
 
+impl Threshold {
     /// The number itself.
     pub fn value(self) -> u32
         ensures { result ≡ self.value }

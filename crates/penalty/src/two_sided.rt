@@ -4,9 +4,9 @@ ghost use Rattle.penalty.specs.TwoSided.{two_sided, step as step_of};
 ghost use Rattle.penalty.specs.TwoSidedLaws.{two_sided_capped, two_sided_valley};
 ghost use Rattle.std.proofs.Common.{rules};
 
-use crate::deviation::deviation_of;
-use crate::domain::in_domain;
+use crate::deviation::Deviation;
 use crate::interface::{Penalty, TOP};
+use crate::question::Question;
 use crate::root_table::roots;
 
 /// 40 for each step where the count is behind its even share, the root table where it is not.
@@ -24,15 +24,15 @@ impl Penalty for TwoSided {
 
     ghost valley = { λ _. two_sided_valley };
 
-    fn cost(&self, slots: u16, channel: u8, readings: u16, count: u16, slot: u16) -> u64 {
-        if !in_domain(slots, channel, readings, count, slot) {
+    fn cost(&self, question: Question) -> u64 {
+        if !question.in_domain() {
             return TOP;
         }
-        let q = deviation_of(slots, readings, count, slot);
+        let q = Deviation::of(question);
         if q.behind > 0 {
-            return 40 * u64::from(step(q.behind, slots));
+            return 40 * u64::from(step(q.behind, question.slots));
         }
-        u64::from(roots()[usize::from(step(q.ahead, slots))])
+        u64::from(roots()[usize::from(step(q.ahead, question.slots))])
     }
 
     fn depth(&self) -> u8 {

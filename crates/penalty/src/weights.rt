@@ -1,24 +1,29 @@
-// The weights of the channels, which a layer puts over a penalty.
-ghost use Rattle.std.specs.Prelude.{◌≡◌, ℕ, ◌≤◌, length, replicate, Ok, Err, slice_index, slice_set};
-ghost use Rattle.penalty.specs.Settings.{WeightFault, Accepted, Refused};
+// The layer weights: each cost times the weight of its channel.
+ghost use Rattle.std.specs.Prelude.{◌≡◌, ◌≤◌, All, length, replicate, Ok, Err, slice_index, slice_set};
+ghost use Rattle.penalty.specs.Layers.{weighted};
+ghost use Rattle.penalty.specs.Maps.{map_capped, map_outside, map_valley, weight_maps};
 
-use crate::interface::CHANNELS;
+use crate::interface::{CHANNELS, Penalty, TOP};
+use crate::layer::Layer;
+use crate::question::Question;
 use crate::settings::SettingRefusal;
 
 /// The largest weight.
 pub const LARGEST_WEIGHT: u16 = 1_000;
 
-/// A weight from 0 to 1,000 for each channel number.
+/// The layer under which costs below TOP are multiplied by the weight of the channel, from 0 to 1,000, up to TOP - 1.
 #[derive(Clone, Copy)]
 pub struct Weights {
     by_channel: [u16; CHANNELS],
     // A weight for each channel number.
     ghost long: { length by_channel ≡ 64 },
     // No weight is above 1,000.
-    ghost within: { (c : ℕ) → slice_index by_channel c ≤ 1000 },
+    ghost within: { All (λ w. w ≤ 1000) by_channel },
 }
 
 impl Weights {
+    ghost use Rattle.penalty.specs.Settings.{WeightFault, Accepted, Refused};
+
     /// Every weight 1.
     pub fn new() -> Weights
         ensures { result.by_channel ≡ replicate 64 1 }
@@ -51,5 +56,23 @@ impl Weights {
         ensures { (result ≡ slice_index self.now.by_channel channel) × (result ≤ 1000) }
     {
         self.by_channel[usize::from(channel)]
+    }
+}
+
+impl Layer for Weights {
+    ghost layered = { λ l. weighted l.by_channel };
+
+    ghost capped = { λ l f. map_capped (weight_maps l.by_channel) };
+
+    ghost outside = { λ l f. map_outside (weight_maps l.by_channel) };
+
+    ghost valley = { λ l f _. map_valley (weight_maps l.by_channel) };
+
+    fn cost_over<P: Penalty>(&self, below: &P, question: Question) -> u64 {
+        let cost = below.cost(question);
+        if cost >= TOP {
+            return TOP;
+        }
+        (u64::from(self.of(question.channel)) * cost).min(TOP - 1)
     }
 }

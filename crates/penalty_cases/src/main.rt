@@ -7,15 +7,43 @@ mod tests;
 
 ghost use Rattle.std.specs.Prelude.{◌<◌, length, Some, None};
 
-use penalty::{AbsoluteDeviation, SettingRefusal, Threshold, TwoSided, Weights};
-use pile::{Question, Settings, pile_cost};
+use penalty::{
+    AbsoluteDeviation, Band, Question, SettingRefusal, Stop, Threshold, TwoSided, Weights,
+};
+use pile::{Layers, pile_cost};
 use std::io;
 use std::io::Read;
+
+// Which bottom a case is about.
+#[derive(Clone, Copy)]
+enum Bottom {
+    Absolute,
+    TwoSided,
+}
+
+impl From<u8> for Bottom {
+    fn from(code: u8) -> Bottom {
+        match code {
+            1 => Bottom::TwoSided,
+            _ => Bottom::Absolute,
+        }
+    }
+}
+
+impl Bottom {
+    // The cost of a question under layers over this bottom.
+    fn cost(self, layers: Layers, question: Question) -> u64 {
+        match self {
+            Bottom::Absolute => pile_cost(AbsoluteDeviation, layers, question),
+            Bottom::TwoSided => pile_cost(TwoSided, layers, question),
+        }
+    }
+}
 
 // A case: which bottom, the settings of the layers over it, and a question.
 #[derive(Clone, Copy)]
 struct Case {
-    two_sided: bool,
+    bottom: Bottom,
     weight_channel: u8,
     weight: u16,
     tolerance: u32,
@@ -64,7 +92,7 @@ fn next_case(bytes: &[u8]) -> Option<(Case, &[u8])>
     };
     let (question, rest) = next_question(rest)?;
     let case = Case {
-        two_sided: *bottom == 1,
+        bottom: Bottom::from(*bottom),
         weight_channel: *channel,
         weight: u16::from_be_bytes([*w1, *w0]),
         tolerance: u32::from_be_bytes([*t3, *t2, *t1, *t0]),
@@ -78,16 +106,16 @@ fn next_case(bytes: &[u8]) -> Option<(Case, &[u8])>
 fn answer(case: &Case) -> Result<u64, SettingRefusal> {
     let mut weights = Weights::new();
     weights.set(case.weight_channel, case.weight)?;
-    let settings = Settings {
+    let layers = Layers {
         weights,
-        tolerance: Threshold::new(case.tolerance)?,
-        limit: Threshold::new(case.limit)?,
+        band: Band {
+            tolerance: Threshold::try_from(case.tolerance)?,
+        },
+        stop: Stop {
+            limit: Threshold::try_from(case.limit)?,
+        },
     };
-    if case.two_sided {
-        Ok(pile_cost(TwoSided, settings, case.question))
-    } else {
-        Ok(pile_cost(AbsoluteDeviation, settings, case.question))
-    }
+    Ok(case.bottom.cost(layers, case.question))
 }
 
 fn main(rt: HostRuntime) -> io::Result<()> {

@@ -4,8 +4,8 @@ ghost use Rattle.penalty.specs.Cost.{bottom};
 ghost use Rattle.std.proofs.Common.{rules};
 
 use penalty::{
-    AbsoluteDeviation, Banded, Penalty, SettingRefusal, Stopped, TOP, Threshold, TwoSided,
-    Weighted, Weights, in_domain,
+    AbsoluteDeviation, Band, Layered, Penalty, Question, SettingRefusal, Stop, TOP, Threshold,
+    TwoSided, Weights,
 };
 use round::{Largest, Refusal, audit};
 use std::test::Fail;
@@ -29,8 +29,8 @@ impl Penalty for Constant {
 
     ghost valley = { Prim.search rules };
 
-    fn cost(&self, slots: u16, channel: u8, readings: u16, count: u16, slot: u16) -> u64 {
-        if !in_domain(slots, channel, readings, count, slot) {
+    fn cost(&self, question: Question) -> u64 {
+        if !question.in_domain() {
             return TOP;
         }
         self.cost
@@ -41,16 +41,36 @@ impl Penalty for Constant {
     }
 }
 
+// The cost of a channel with 1 reading in 2 slots, at a count after a slot.
+fn cost<P: Penalty>(penalty: &P, channel: u8, count: u16, slot: u16) -> u64 {
+    penalty.cost(Question {
+        slots: 2,
+        channel,
+        readings: 1,
+        count,
+        slot,
+    })
+}
+
 // The costs of a channel with 1 reading in 2 slots: counts 0 and 1 at k = 0, at k = 1 and at k = 2.
 fn costs<P: Penalty>(penalty: &P, channel: u8) -> [u64; 6] {
-    [
-        penalty.cost(2, channel, 1, 0, 0),
-        penalty.cost(2, channel, 1, 1, 0),
-        penalty.cost(2, channel, 1, 0, 1),
-        penalty.cost(2, channel, 1, 1, 1),
-        penalty.cost(2, channel, 1, 0, 2),
-        penalty.cost(2, channel, 1, 1, 2),
-    ]
+    [(0, 0), (1, 0), (0, 1), (1, 1), (0, 2), (1, 2)].map(|(count, slot)| cost(
+        penalty, channel, count, slot,
+    ))
+}
+
+// A band of this tolerance.
+fn band(tolerance: u32) -> Result<Band, SettingRefusal> {
+    Ok(Band {
+        tolerance: Threshold::try_from(tolerance)?,
+    })
+}
+
+// A stop of this limit.
+fn stop(limit: u32) -> Result<Stop, SettingRefusal> {
+    Ok(Stop {
+        limit: Threshold::try_from(limit)?,
+    })
 }
 
 // Weights 3 and 1 for channels 0 and 1.
@@ -64,14 +84,10 @@ fn three_to_one() -> Result<Weights, SettingRefusal> {
 fn pile<P: Penalty + Drop>(
     below: P,
     limit: u32,
-) -> Result<Stopped<Banded<Weighted<P>>>, SettingRefusal> {
-    let weights = three_to_one()?;
-    let tolerance = Threshold::new(1)?;
-    let limit = Threshold::new(limit)?;
-    Ok(Stopped::over(
-        Banded::over(Weighted::over(below, weights), tolerance),
-        limit,
-    ))
+) -> Result<Layered<Layered<Layered<P, Weights>, Band>, Stop>, SettingRefusal> {
+    let weighted = Layered::over(below, three_to_one()?);
+    let banded = Layered::over(weighted, band(1)?);
+    Ok(Layered::over(banded, stop(limit)?))
 }
 
 // The audit of readings 1 and 1.
@@ -100,18 +116,23 @@ fn constant_of(cost: u64) -> Constant {
 }
 
 // A layer at depth 255.
-fn deepest() -> Weighted<Constant> {
-    Weighted::over(constant_of(0), Weights::new())
+fn deepest() -> Layered<Constant, Weights> {
+    Layered::over(constant_of(0), Weights::new())
 }
 
 // One cost under weights, for channel 0.
-fn weighted_constant(cost: u64, weights: Weights) -> u64 {
-    Weighted::over(constant_of(cost), weights).cost(2, 0, 1, 0, 0)
+fn weighted_constant(constant: u64, weights: Weights) -> u64 {
+    cost(&Layered::over(constant_of(constant), weights), 0, 0, 0)
 }
 
 // One cost under a tolerance.
-fn banded_constant(cost: u64, tolerance: Threshold) -> u64 {
-    Banded::over(constant_of(cost), tolerance).cost(2, 0, 1, 0, 0)
+fn banded_constant(constant: u64, tolerance: Threshold) -> u64 {
+    cost(
+        &Layered::over(constant_of(constant), Band { tolerance }),
+        0,
+        0,
+        0,
+    )
 }
 
 #[test]
@@ -122,25 +143,25 @@ fn bottoms(rt: HostRuntime) {
 
 #[test]
 fn single_layers(rt: HostRuntime) -> Result<(), Fail> {
-    let weighted = Weighted::over(AbsoluteDeviation, three_to_one()?);
+    let weighted = Layered::over(AbsoluteDeviation, three_to_one()?);
     assert_eq!(rt; costs(&weighted, 0), [0, 6, 3, 3, 6, 0]);
     assert_eq!(rt; costs(&weighted, 1), [0, 2, 1, 1, 2, 0]);
-    let banded = Banded::over(AbsoluteDeviation, Threshold::new(1)?);
+    let banded = Layered::over(AbsoluteDeviation, band(1)?);
     assert_eq!(rt; costs(&banded, 0), [0, 1, 0, 0, 1, 0]);
-    let stopped = Stopped::over(AbsoluteDeviation, Threshold::new(0)?);
+    let stopped = Layered::over(AbsoluteDeviation, stop(0)?);
     assert_eq!(rt; costs(&stopped, 0), [0, TOP, 1, TOP, 2, 0]);
-    let stopped = Stopped::over(AbsoluteDeviation, Threshold::new(1)?);
+    let stopped = Layered::over(AbsoluteDeviation, stop(1)?);
     assert_eq!(rt; costs(&stopped, 0), [0, TOP, 1, 1, 2, 0]);
     Ok(())
 }
 
 #[test]
 fn order_of_layers(rt: HostRuntime) -> Result<(), Fail> {
-    let weighted = Weighted::over(AbsoluteDeviation, three_to_one()?);
-    let band_above = Banded::over(weighted, Threshold::new(1)?);
+    let weighted = Layered::over(AbsoluteDeviation, three_to_one()?);
+    let band_above = Layered::over(weighted, band(1)?);
     assert_eq!(rt; costs(&band_above, 0), [0, 5, 2, 2, 5, 0]);
-    let banded = Banded::over(AbsoluteDeviation, Threshold::new(1)?);
-    let weights_above = Weighted::over(banded, three_to_one()?);
+    let banded = Layered::over(AbsoluteDeviation, band(1)?);
+    let weights_above = Layered::over(banded, three_to_one()?);
     assert_eq!(rt; costs(&weights_above, 0), [0, 3, 0, 0, 3, 0]);
     Ok(())
 }
@@ -173,7 +194,7 @@ fn weights_at_the_cap(rt: HostRuntime) -> Result<(), Fail> {
 
 #[test]
 fn bands_at_the_cap(rt: HostRuntime) -> Result<(), Fail> {
-    let widest = Threshold::new(16_777_216)?;
+    let widest = Threshold::try_from(16_777_216)?;
     assert_eq!(rt; banded_constant(16_777_215, widest), 0);
     assert_eq!(rt; banded_constant(16_777_216, widest), 0);
     assert_eq!(rt; banded_constant(16_777_217, widest), 1);
@@ -190,14 +211,14 @@ fn refused_settings(rt: HostRuntime) -> Result<(), Fail> {
         Err(SettingRefusal::ChannelAboveLimit)
     );
     assert_eq!(rt; weights.set(0, 1001), Err(SettingRefusal::WeightAboveLimit));
-    let weighted = Weighted::over(AbsoluteDeviation, weights);
+    let weighted = Layered::over(AbsoluteDeviation, weights);
     assert_eq!(rt; costs(&weighted, 0), [0, 6, 3, 3, 6, 0]);
     assert_eq!(rt; weights.set(63, 1000), Ok(()));
-    let weighted = Weighted::over(AbsoluteDeviation, weights);
+    let weighted = Layered::over(AbsoluteDeviation, weights);
     assert_eq!(rt; costs(&weighted, 63), [0, 2000, 1000, 1000, 2000, 0]);
-    assert_eq!(rt; Threshold::new(16_777_216)?.value(), 16_777_216);
+    assert_eq!(rt; Threshold::try_from(16_777_216)?.value(), 16_777_216);
     assert_eq!(rt;
-        Threshold::new(16_777_217),
+        Threshold::try_from(16_777_217),
         Err(SettingRefusal::ThresholdAboveLimit)
     );
     Ok(())
@@ -207,14 +228,14 @@ fn refused_settings(rt: HostRuntime) -> Result<(), Fail> {
 fn depths(rt: HostRuntime) -> Result<(), Fail> {
     assert_eq!(rt; AbsoluteDeviation.depth(), 0);
     assert_eq!(rt; TwoSided.depth(), 0);
-    let one = Stopped::over(TwoSided, Threshold::new(0)?);
+    let one = Layered::over(TwoSided, stop(0)?);
     assert_eq!(rt; one.depth(), 1);
-    assert_eq!(rt; Banded::over(one, Threshold::new(0)?).depth(), 2);
+    assert_eq!(rt; Layered::over(one, band(0)?).depth(), 2);
     assert_eq!(rt; constant_of(0).depth(), 254);
     assert_eq!(rt; deepest().depth(), 255);
-    assert_eq!(rt; Weighted::over(deepest(), Weights::new()).depth(), 255);
-    assert_eq!(rt; Banded::over(deepest(), Threshold::new(0)?).depth(), 255);
-    assert_eq!(rt; Stopped::over(deepest(), Threshold::new(0)?).depth(), 255);
+    assert_eq!(rt; Layered::over(deepest(), Weights::new()).depth(), 255);
+    assert_eq!(rt; Layered::over(deepest(), band(0)?).depth(), 255);
+    assert_eq!(rt; Layered::over(deepest(), stop(0)?).depth(), 255);
     Ok(())
 }
 

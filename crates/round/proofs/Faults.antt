@@ -1,5 +1,5 @@
 -- Which refusal is reported: a fault that is there, once every check before it has passed.
-use Rattle.std.proofs.Common.{◌≡◌, ℕ, ◌+◌, ◌<◌, ◌≤◌, ◌≢◌, List, length, get_or, sum, sym, refl, ◌∙◌, ⊎_elim, arith}
+use Rattle.std.proofs.Common.{◌≡◌, ℕ, All, ◌+◌, ◌<◌, ◌≤◌, ◌≢◌, List, length, get_or, sum, sym, refl, ◌∙◌, ⊎_elim, arith}
 use Rattle.std.proofs.lemmas.List.Sums.{get_or-le-sum_by}
 use Rattle.std.proofs.lemmas.Bool.{cases_eq}
 use Rattle.round.specs.Lists.{readings, Channel, times}
@@ -34,6 +34,21 @@ refused t l e h p f least = record {
   fault = f;
   first = λ s so g. ⊎_elim (λ less. no_fault t l (turn (number e)) h p s less g) (λ same. least s same.0 same.1 g) so;
 }
+
+-- refusal 5
+pub total_above : (t l : List ℕ) → length t ≡ 64 → All (λ n. n ≤ 4096) t → 4096 < sum t → Refused t l TotalAboveLimit
+total_above t l long small above =
+    refused t l TotalAboveLimit (omega arith)
+    (record {
+      long = λ _. long;
+      small = λ _. readings_bound t 4096 (λ c below. small c 0 below);
+      few = λ h. absurd (omega arith);
+      some = λ h. absurd (omega arith);
+      full = λ h. absurd (omega arith);
+      known = λ h. absurd (omega arith);
+    })
+    above
+    (λ s _ less _. omega arith)
 
 module _ (t l : List ℕ) (long : length t ≡ 64) (few : sum t ≤ 4096) where
   -- a table has passed the checks of a row

@@ -2,4 +2,5 @@
 pub mod Audit
 pub mod Lists
 pub mod Refusals
+pub mod Tables
 pub mod Walk

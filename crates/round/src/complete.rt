@@ -54,11 +54,10 @@ impl Readings {
           | Some c ↦ (slice_index counts.now c ≢ readings self.now.by_channel c) × ((b : ℕ) → b < c → slice_index counts.now b ≡ readings self.now.by_channel b)
         ] }
     {
-        for channel in 0..CHANNELS as u8 {
-            if counts[usize::from(channel)] != self.of(channel) {
-                return Some(channel);
-            }
-        }
-        None
+        let place = counts
+            .iter()
+            .zip(&self.by_channel)
+            .position(|(count, readings)| count != readings)?;
+        Some(place as u8)
     }
 }

@@ -8,70 +8,77 @@ use crate::counting::{count_slot, slot_at};
 use crate::largest::Largest;
 use crate::readings::Readings;
 use crate::refusal::Refusal;
-use penalty::{CHANNELS, Penalty};
+use penalty::{CHANNELS, Penalty, Question};
 
 /// The largest cost of the list for the channels of the row, and the first moment that has it:
 /// the smallest k, then the smallest channel.
 pub fn audit<P: Penalty>(penalty: &P, row: &[u16], list: &[u8]) -> Result<Largest, Refusal>
     ensures { Audited (P.cost penalty.now) row.now list.now result }
 {
-    let readings = Readings::from_row(row)?;
+    let readings = Readings::try_from(row)?;
     readings.check(list)?;
     Ok(largest_cost(penalty, &readings, list))
 }
 
 // Counts the channels slot by slot, and takes the costs after each slot.
-fn largest_cost<P: Penalty>(penalty: &P, readings: &Readings, list: &[u8]) -> Largest
+fn largest_cost<'a, P: Penalty>(penalty: &'a P, readings: &'a Readings, list: &[u8]) -> Largest
     requires { Sound readings.now.by_channel × Complete readings.now.by_channel list.now }
     ensures { FirstLargest (P.cost penalty.now) readings.now.by_channel list.now result }
 {
-    let mut counts = [0; CHANNELS];
-    let mut found = scan(penalty, readings, &counts, 0, None);
+    let mut walk = Walk {
+        penalty,
+        readings,
+        counts: [0; CHANNELS],
+    };
+    let mut found = walk.scan(0, None);
     for (i, &channel) in list.iter().enumerate() {
-        count_slot(&mut counts, channel);
-        found = scan(penalty, readings, &counts, slot_at(i), found);
+        count_slot(&mut walk.counts, channel);
+        found = walk.scan(slot_at(i), found);
     }
     found.unwrap()
 }
 
-// Takes the cost of each channel after a slot into account, in the order of the channels.
-fn scan<P: Penalty>(
-    penalty: &P,
-    readings: &Readings,
-    counts: &[u16; CHANNELS],
-    slot: u16,
-    before: Option<Largest>,
-) -> Option<Largest>
-    ensures { Scanned (P.cost penalty.now) readings.now.by_channel counts.now slot before result }
-{
-    let mut found = before;
-    for channel in 0..CHANNELS as u8 {
-        if readings.of(channel) > 0 {
-            let cost = cost_after(penalty, readings, counts, slot, channel);
-            let next = Largest {
-                cost,
-                slot,
-                channel,
-            };
-            found = Some(larger(found, next));
-        }
-    }
-    found
+// How far a walk over a list has come: how often each channel stands in the slots so far.
+#[derive(Clone, Copy)]
+struct Walk<'a, P> {
+    penalty: &'a P,
+    readings: &'a Readings,
+    counts: [u16; CHANNELS],
 }
 
-// What the count of a channel costs after a slot.
-fn cost_after<P: Penalty>(
-    penalty: &P,
-    readings: &Readings,
-    counts: &[u16; CHANNELS],
-    slot: u16,
-    channel: u8,
-) -> u64
-    requires { channel < 64 }
-    ensures { result ≡ P.cost penalty.now (sum readings.now.by_channel) channel (d_of readings.now.by_channel channel) (slice_index counts.now channel) slot }
-{
-    let count = counts[usize::from(channel)];
-    penalty.cost(readings.total(), channel, readings.of(channel), count, slot)
+impl<'a, P: Penalty> Walk<'a, P> {
+    // Takes the cost of each channel after a slot into account, in the order of the channels.
+    fn scan(&self, slot: u16, before: Option<Largest>) -> Option<Largest>
+        ensures { Scanned (P.cost self.now.penalty.now) self.now.readings.now.by_channel self.now.counts slot before result }
+    {
+        let mut found = before;
+        for channel in 0..CHANNELS as u8 {
+            if self.readings.of(channel) > 0 {
+                let cost = self.cost_after(slot, channel);
+                let next = Largest {
+                    cost,
+                    slot,
+                    channel,
+                };
+                found = Some(larger(found, next));
+            }
+        }
+        found
+    }
+
+    // What the count of a channel costs after a slot.
+    fn cost_after(&self, slot: u16, channel: u8) -> u64
+        requires { channel < 64 }
+        ensures { result ≡ P.cost self.now.penalty.now (sum self.now.readings.now.by_channel) channel (d_of self.now.readings.now.by_channel channel) (slice_index self.now.counts channel) slot }
+    {
+        self.penalty.cost(Question {
+            slots: self.readings.total(),
+            channel,
+            readings: self.readings.of(channel),
+            count: self.counts[usize::from(channel)],
+            slot,
+        })
+    }
 }
 
 // The larger of what was found before and the next; of equal costs the earlier stays.

@@ -2,13 +2,13 @@
 use Rattle.std.proofs.Common.{◌≡◌, sum, ap, ◌∙◌, arith}
 use Rattle.round.specs.Lists.{Moment, readings, cost_at}
 use Rattle.round.proofs.Walks.{found_skip, found_more, past_slot}
-use Rattle.round.proofs.walk.scan.Goals as goal
-use Rattle.round.proofs.walk.scan.Goals.{then-of-gt0, else-of-gt0}
+use Rattle.round.proofs.walk.Walk.scan.Goals as goal
+use Rattle.round.proofs.walk.Walk.scan.Goals.{then-of-gt0, else-of-gt0}
 
 pub loop-channel-preserved : goal.loop-channel-preserved
 loop-channel-preserved g c list inside agree before =
-    let f = g.P.Penalty.cost c.args.penalty.now in
-    let t = c.args.readings.now.by_channel in
+    let f = g.P.Penalty.cost c.args.self.now.penalty.now in
+    let t = c.args.self.now.readings.now.by_channel in
     let slot = c.args.slot in
     let channel = c.loop-channel.channel in
     let old = c.loop-channel.invariant list inside agree before in
@@ -24,5 +24,5 @@ loop-channel-preserved g c list inside agree before =
 pub returns : goal.returns
 returns g c list inside agree before =
     let end : c.loop-channel.channel ≡ 64 = omega arith in
-    past_slot _ c.args.readings.now.by_channel (omega arith) c.args.slot c.loop-channel.found
+    past_slot _ c.args.self.now.readings.now.by_channel (omega arith) c.args.slot c.loop-channel.found
     (rw end at (c.loop-channel.invariant list inside agree before))
