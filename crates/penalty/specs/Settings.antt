@@ -33,5 +33,5 @@ pub record Refused (Fault : SettingRefusal → Type 0) (e : SettingRefusal) : Ty
 
 -- what is made of a number n: a tolerance or a limit of this value, or a refusal
 abbrev pub IsThreshold : ℕ → Result Threshold SettingRefusal → Type 0
-IsThreshold n (Ok threshold) = Accepted (ThresholdFault n) × (threshold.value ≡ n)
+IsThreshold n (Ok threshold) = Accepted (ThresholdFault n) × (threshold ≡ n)
 IsThreshold n (Err e) = Refused (ThresholdFault n) e

@@ -14,13 +14,13 @@ pub struct Band {
 }
 
 impl Layer for Band {
-    ghost layered = { λ l. banded l.tolerance.value };
+    ghost layered = { λ l. banded l.tolerance };
 
-    ghost capped = { λ l f. map_capped (λ _. relax_map l.tolerance.value) };
+    ghost capped = { λ l f. map_capped (λ _. relax_map l.tolerance) };
 
-    ghost outside = { λ l f. map_outside (λ _. relax_map l.tolerance.value) };
+    ghost outside = { λ l f. map_outside (λ _. relax_map l.tolerance) };
 
-    ghost valley = { λ l f _. map_valley (λ _. relax_map l.tolerance.value) };
+    ghost valley = { λ l f _. map_valley (λ _. relax_map l.tolerance) };
 
     fn cost_over<P: Penalty>(&self, below: &P, question: Question) -> u64 {
         let cost = below.cost(question);

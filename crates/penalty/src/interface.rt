@@ -5,12 +5,6 @@ ghost use Rattle.penalty.specs.Question.{asked};
 
 use crate::question::Question;
 
-/// How many channel numbers there are, 0 to 63.
-pub const CHANNELS: usize = 64;
-
-/// The most readings of a round, and so its most slots.
-pub const LIMIT: u16 = 4_096;
-
 /// The forbidden cost, 2^40 - 1; no cost is larger.
 pub const TOP: u64 = 1_099_511_627_775;
 

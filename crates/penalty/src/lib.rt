@@ -16,8 +16,9 @@ mod weights;
 
 pub use absolute::AbsoluteDeviation;
 pub use band::Band;
-pub use interface::{CHANNELS, LIMIT, Penalty, TOP};
+pub use interface::{Penalty, TOP};
 pub use layer::{Layer, Layered};
+pub use limits::{CHANNELS, LIMIT};
 pub use question::Question;
 pub use root_table::roots;
 pub use settings::SettingRefusal;

@@ -2,7 +2,7 @@
 ghost use Rattle.std.specs.Prelude.{◌≡◌};
 ghost use Rattle.penalty.specs.Cost.{inside};
 
-use crate::interface::{CHANNELS, LIMIT};
+use limits::{CHANNELS, LIMIT};
 
 /// The question what it costs that a channel stands so many times in the first slots of a round.
 #[derive(Clone, Copy, PartialEq, Eq, Debug)]

@@ -16,13 +16,13 @@ pub struct Stop {
 }
 
 impl Layer for Stop {
-    ghost layered = { λ l. stopped l.limit.value };
+    ghost layered = { λ l. stopped l.limit };
 
-    ghost capped = { λ l f. stop_capped l.limit.value };
+    ghost capped = { λ l f. stop_capped l.limit };
 
     ghost outside = { Prim.search rules };
 
-    ghost valley = { λ l f. stop_valley l.limit.value };
+    ghost valley = { λ l f. stop_valley l.limit };
 
     fn cost_over<P: Penalty>(&self, below: &P, question: Question) -> u64 {
         if Deviation::of(question).ahead > self.limit.value() {

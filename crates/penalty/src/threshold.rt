@@ -1,7 +1,8 @@
 // The tolerance of a band and the limit of a stop: numbers as large as a size of q can be.
-ghost use Rattle.std.specs.Prelude.{◌≡◌, ◌≤◌};
+ghost use Rattle.std.specs.Prelude.{◌≡◌, ℕ, ◌≤◌};
 
 use crate::settings::SettingRefusal;
+use std::marker::Model;
 
 /// The largest size of q on the domain, 4,096 * 4,096, and so the largest tolerance or limit.
 pub const LARGEST_SIZE: u32 = 16_777_216;
@@ -10,7 +11,17 @@ pub const LARGEST_SIZE: u32 = 16_777_216;
 #[derive(Clone, Copy, PartialEq, Eq, Debug)]
 pub struct Threshold {
     value: u32,
-    ghost within: { value ≤ 16777216 },
+}
+
+// Clauses see the number.
+impl Model for Threshold {
+    ghost Value = { ℕ };
+
+    ghost view = { λ t. t.value };
+
+    ghost invariant = { λ t. t.value ≤ 16777216 };
+
+    ghost inverse = { λ n. record { value = n } };
 }
 
 /// The tolerance or limit of a value, unless it is refused with 10.
@@ -32,7 +43,8 @@ impl TryFrom<u32> for Threshold {
 impl Threshold {
     /// The number itself.
     pub fn value(self) -> u32
-        ensures { result ≡ self.value }
+        ensures value { result ≡ self }
+        ensures within { result ≤ 16777216 }
     {
         self.value
     }

@@ -3,10 +3,11 @@ ghost use Rattle.std.specs.Prelude.{◌≡◌, ◌≤◌, All, length, replicate
 ghost use Rattle.penalty.specs.Layers.{weighted};
 ghost use Rattle.penalty.specs.Maps.{map_capped, map_outside, map_valley, weight_maps};
 
-use crate::interface::{CHANNELS, Penalty, TOP};
+use crate::interface::{Penalty, TOP};
 use crate::layer::Layer;
 use crate::question::Question;
 use crate::settings::SettingRefusal;
+use limits::CHANNELS;
 
 /// The largest weight.
 pub const LARGEST_WEIGHT: u16 = 1_000;

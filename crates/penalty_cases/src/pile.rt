@@ -15,7 +15,7 @@ pub struct Layers {
 
 /// The cost of a question under stop over band over weights over a penalty.
 pub fn pile_cost<P: Penalty + Drop>(below: P, layers: Layers, question: Question) -> u64
-    ensures { result ≡ asked (stopped layers.stop.limit.value (banded layers.band.tolerance.value (weighted layers.weights.by_channel (P.cost below)))) question }
+    ensures { result ≡ asked (stopped layers.stop.limit (banded layers.band.tolerance (weighted layers.weights.by_channel (P.cost below)))) question }
 {
     let weighted = Layered::over(below, layers.weights);
     let banded = Layered::over(weighted, layers.band);
