@@ -6,6 +6,7 @@ mod pile;
 mod tests;
 
 ghost use Rattle.std.specs.Prelude.{◌<◌, length, Some, None};
+ghost use Rattle.std.specs.Iterator.{at_most};
 
 use penalty::{
     AbsoluteDeviation, Band, Question, SettingRefusal, Stop, Threshold, TwoSided, Weights,
@@ -102,6 +103,22 @@ fn next_case(bytes: &[u8]) -> Option<(Case, &[u8])>
     Some((case, rest))
 }
 
+// The cases that bytes hold, one after another.
+#[derive(Drop)]
+struct Cases<'a>(&'a [u8]);
+
+impl<'a> Iterator for Cases<'a> {
+    type Item = Case;
+
+    ghost remaining = { λ s. at_most (length s.0.now) };
+
+    fn next(&mut self) -> Option<Case> {
+        let (case, rest) = next_case(self.0)?;
+        self.0 = rest;
+        Some(case)
+    }
+}
+
 // The cost of a case, unless one of its settings is refused.
 fn answer(case: &Case) -> Result<u64, SettingRefusal> {
     let mut weights = Weights::new();
@@ -121,13 +138,11 @@ fn answer(case: &Case) -> Result<u64, SettingRefusal> {
 fn main(rt: HostRuntime) -> io::Result<()> {
     let mut input = Vec::new(rt.alloc());
     rt.stdin().read_to_end(&mut input)?;
-    let mut cases = input.as_slice();
-    while let Some((case, rest)) = next_case(cases) {
+    for case in Cases(&input) {
         match answer(&case) {
             Ok(cost) => println!(rt; "{cost}")?,
             Err(refusal) => println!(rt; "REFUSED {}", refusal.number())?,
         }
-        cases = rest;
     }
     Ok(())
 }

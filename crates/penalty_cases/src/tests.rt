@@ -4,8 +4,8 @@ ghost use Rattle.penalty.specs.Cost.{bottom};
 ghost use Rattle.std.proofs.Common.{rules};
 
 use penalty::{
-    AbsoluteDeviation, Band, Layered, Penalty, Question, SettingRefusal, Stop, TOP, Threshold,
-    TwoSided, Weights,
+    AbsoluteDeviation, Band, Layer, Layered, Penalty, Question, SettingRefusal, Stop, TOP,
+    Threshold, TwoSided, Weights,
 };
 use round::{Largest, Refusal, audit};
 use std::test::Fail;
@@ -120,19 +120,9 @@ fn deepest() -> Layered<Constant, Weights> {
     Layered::over(constant_of(0), Weights::new())
 }
 
-// One cost under weights, for channel 0.
-fn weighted_constant(constant: u64, weights: Weights) -> u64 {
-    cost(&Layered::over(constant_of(constant), weights), 0, 0, 0)
-}
-
-// One cost under a tolerance.
-fn banded_constant(constant: u64, tolerance: Threshold) -> u64 {
-    cost(
-        &Layered::over(constant_of(constant), Band { tolerance }),
-        0,
-        0,
-        0,
-    )
+// One cost under a layer, for channel 0.
+fn constant_under<L: Layer + Drop>(constant: u64, layer: L) -> u64 {
+    cost(&Layered::over(constant_of(constant), layer), 0, 0, 0)
 }
 
 #[test]
@@ -169,37 +159,28 @@ fn order_of_layers(rt: HostRuntime) -> Result<(), Fail> {
 #[test]
 fn weights_at_the_cap(rt: HostRuntime) -> Result<(), Fail> {
     let mut weights = Weights::new();
-    assert_eq!(rt; weighted_constant(TOP - 1, weights), TOP - 1);
+    assert_eq!(rt; constant_under(TOP - 1, weights), TOP - 1);
     weights.set(0, 1000)?;
-    assert_eq!(rt; weighted_constant(TOP - 1, weights), TOP - 1);
-    assert_eq!(rt; weighted_constant(TOP, weights), TOP);
+    assert_eq!(rt; constant_under(TOP - 1, weights), TOP - 1);
+    assert_eq!(rt; constant_under(TOP, weights), TOP);
     weights.set(0, 2)?;
-    assert_eq!(rt;
-        weighted_constant(549_755_813_886, weights),
-        1_099_511_627_772
-    );
-    assert_eq!(rt;
-        weighted_constant(549_755_813_887, weights),
-        1_099_511_627_774
-    );
-    assert_eq!(rt;
-        weighted_constant(549_755_813_888, weights),
-        1_099_511_627_774
-    );
+    assert_eq!(rt; constant_under(549_755_813_886, weights), 1_099_511_627_772);
+    assert_eq!(rt; constant_under(549_755_813_887, weights), 1_099_511_627_774);
+    assert_eq!(rt; constant_under(549_755_813_888, weights), 1_099_511_627_774);
     weights.set(0, 0)?;
-    assert_eq!(rt; weighted_constant(TOP - 1, weights), 0);
-    assert_eq!(rt; weighted_constant(TOP, weights), TOP);
+    assert_eq!(rt; constant_under(TOP - 1, weights), 0);
+    assert_eq!(rt; constant_under(TOP, weights), TOP);
     Ok(())
 }
 
 #[test]
 fn bands_at_the_cap(rt: HostRuntime) -> Result<(), Fail> {
-    let widest = Threshold::try_from(16_777_216)?;
-    assert_eq!(rt; banded_constant(16_777_215, widest), 0);
-    assert_eq!(rt; banded_constant(16_777_216, widest), 0);
-    assert_eq!(rt; banded_constant(16_777_217, widest), 1);
-    assert_eq!(rt; banded_constant(TOP - 1, widest), 1_099_494_850_558);
-    assert_eq!(rt; banded_constant(TOP, widest), TOP);
+    let widest = band(16_777_216)?;
+    assert_eq!(rt; constant_under(16_777_215, widest), 0);
+    assert_eq!(rt; constant_under(16_777_216, widest), 0);
+    assert_eq!(rt; constant_under(16_777_217, widest), 1);
+    assert_eq!(rt; constant_under(TOP - 1, widest), 1_099_494_850_558);
+    assert_eq!(rt; constant_under(TOP, widest), TOP);
     Ok(())
 }
 
