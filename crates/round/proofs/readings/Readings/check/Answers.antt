@@ -1,4 +1,4 @@
--- The refusals of a list, each once the checks before it have passed, and what a list that passes them all is.
+-- The refusals of a list, each once the checks before it have passed.
 use Rattle.std.proofs.Common.{◌≢◌, sym, ◌∙◌, arith}
 use Rattle.round.specs.Lists.{times, readings}
 use Rattle.round.proofs.Counts.{some_channel}
@@ -23,11 +23,3 @@ returns-in-Some c =
     let other : times channel list ≢ readings table channel = λ e. found.0 (told.1 channel ∙ e) in
     wrong_count table list (omega arith) (omega arith) (omega arith) (omega arith) told.2 channel other
     (λ b h. sym (told.1 b) ∙ found.1 b h)
-
-pub returns-in-None : goal.returns-in-None
-returns-in-None c =
-    let table = c.args.self.now.by_channel in
-    let told = c.in_ok-counts.ensures in (
-      record { long = omega arith; some = some_channel table (omega arith); few = omega arith },
-      record { full = omega arith; each = λ b. sym (told.1 b) ∙ c.in-None.ensures b },
-    )

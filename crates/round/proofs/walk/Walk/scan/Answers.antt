@@ -1,5 +1,5 @@
 -- One channel more, and the end of the channels.
-use Rattle.std.proofs.Common.{◌≡◌, sum, ap, ◌∙◌, arith}
+use Rattle.std.proofs.Common.{◌≡◌, sum, ap, arith}
 use Rattle.round.specs.Lists.{Moment, readings, cost_at}
 use Rattle.round.proofs.Walks.{found_skip, found_more, past_slot}
 use Rattle.round.proofs.walk.Walk.scan.Goals as goal
@@ -14,7 +14,7 @@ loop-channel-preserved g c list inside agree before =
     let old = c.loop-channel.invariant list inside agree before in
     elim c.if-of-gt0.branch [
       | then-of-gt0 w ↦
-          let is : w.cost_after-cost.result ≡ cost_at f t list slot channel = w.cost_after-cost.ensures ∙ ap (λ x. f (sum t) channel (readings t channel) x slot) (agree channel) in
+          let is : w.cost_after-cost.result ≡ cost_at f t list slot channel = rw w.cost_after-cost.ensures (ap (λ x. f (sum t) channel (readings t channel) x slot) (agree channel)) in
           rw (w.found-is, w.larger.ensures)
           (found_more (cost_at f t list) (Moment t) slot channel (inside, omega arith) w.cost_after-cost.result is c.loop-channel.found old)
       | else-of-gt0 w ↦
