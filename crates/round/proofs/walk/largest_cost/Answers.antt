@@ -4,7 +4,7 @@ use Rattle.std.proofs.lemmas.List.{length-set}
 use Rattle.round.specs.Lists.{Moment}
 use Rattle.round.specs.Walk.{Counted}
 use Rattle.round.proofs.Counts.{counted_none, counted_more, count_room, channel_below, complete_known}
-use Rattle.round.proofs.Walks.{first_largest, found_at, found_some, past_all}
+use Rattle.round.proofs.Walks.{found_at, found_some, past_all}
 use Rattle.round.proofs.walk.largest_cost.Goals as goal
 
 pub loop-i-init : goal.loop-i-init
@@ -41,8 +41,3 @@ unwrap-requires g c =
     let some = c.requires.0.some in
     let all = past_all _ t c.loop-i.i (omega arith) c.loop-i.found c.loop-i.invariant.4 in
     found_some _ (Moment t) c.loop-i.found all 0 some.0 (omega arith, some.1)
-
-pub returns : goal.returns
-returns g c =
-    let all = past_all _ c.args.readings.now.by_channel c.loop-i.i (omega arith) c.loop-i.found c.loop-i.invariant.4 in
-    first_largest (g.P.Penalty.cost c.args.penalty.now) c.args.readings.now.by_channel c.args.list.now c.unwrap.result (rw c.unwrap.ensures at all)

@@ -1,13 +1,8 @@
 -- The refusals of a list, each once the checks before it have passed.
 use Rattle.std.proofs.Common.{◌≢◌, sym, ◌∙◌, arith}
 use Rattle.round.specs.Lists.{times, readings}
-use Rattle.round.proofs.Counts.{some_channel}
-use Rattle.round.proofs.Faults.{no_channel, wrong_length, wrong_count}
+use Rattle.round.proofs.Faults.{wrong_length, wrong_count}
 use Rattle.round.proofs.readings.Readings.check.Goals as goal
-
-pub returns-then-total-eq0 : goal.returns-then-total-eq0
-returns-then-total-eq0 c =
-    no_channel c.args.self.now.by_channel c.args.list.now (omega arith) (omega arith) (omega arith)
 
 pub returns-then-list-from : goal.returns-then-list-from
 returns-then-list-from c =
