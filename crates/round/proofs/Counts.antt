@@ -1,7 +1,7 @@
 -- Counting the channels of a list, slot by slot.
 use Rattle.std.proofs.Common.{◌≡◌, ℕ, suc, ◌+◌, ◌<◌, ◌≤◌, false, cond, eqb, List, [], ◌∷◌, length, get_or, take, set, replicate, sum, sym, refl, ap, ◌∙◌, ⊎_elim, arith}
 use Rattle.std.proofs.lemmas.List.{get_or-replicate, get_or_past, get_or-set_same, get_or-set_other, length-replicate, length-take}
-use Rattle.std.proofs.lemmas.List.Sums.{count_by_more_yes, count_by_more_no, count_by-le-length, get_or-le-sum_by, sum_by-cons, sum_by-take-le}
+use Rattle.std.proofs.lemmas.List.Sums.{count_by_more_yes, count_by_more_no, count_by-le-length, sum_by-cons, sum_by-take-le}
 use Rattle.std.proofs.lemmas.Bool.{cases_eq, cases_lt, eq-eqb, ne_eqb}
 use Rattle.round.specs.Lists.{readings, Channel, Complete, times, count}
 use Rattle.round.specs.Walk.{Counted}
@@ -72,9 +72,3 @@ some_channel [] h = absurd (omega arith)
 some_channel (x ∷ xs) h =
     let step = sum_by-cons (λ y. y) x xs in
     ⊎_elim (λ p. (0, p)) (λ z. let rest = some_channel xs (omega arith) in (suc rest.0, rest.1)) (cases_lt 0 x)
-
--- a table without readings has none
-pub none_channel : (t : List ℕ) → sum t ≡ 0 → (c : ℕ) → Channel t c → ⊥
-none_channel t none c here =
-    let le = readings_bound t 0 (λ b below. let part = get_or-le-sum_by (λ x. x) t b 0 below in omega arith) c in
-    omega arith

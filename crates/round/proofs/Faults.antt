@@ -3,7 +3,7 @@ use Rattle.std.proofs.Common.{◌≡◌, ℕ, All, ◌+◌, ◌<◌, ◌≤◌, 
 use Rattle.std.proofs.lemmas.List.Sums.{get_or-le-sum_by}
 use Rattle.std.proofs.lemmas.Bool.{cases_eq}
 use Rattle.round.specs.Lists.{readings, Channel, times}
-use Rattle.round.proofs.Counts.{absent, none_channel, readings_bound, some_channel}
+use Rattle.round.proofs.Counts.{absent, readings_bound, some_channel}
 use Rattle.round.specs.Refusals.{Fault, Refused, number, value, turn}
 use Rattle.round.specs.declared.refusal.Refusal.{Refusal}
 use Rattle.round.specs.declared.refusal.Refusal.TheVariants.{RowLength, ReadingsAboveLimit, TotalAboveLimit, NoChannel, ListLength, NotAChannel, WrongCount}
@@ -61,12 +61,6 @@ module _ (t l : List ℕ) (long : length t ≡ 64) (few : sum t ≤ 4096) where
     full = full;
     known = known;
   }
-
-  -- refusal 6
-  pub no_channel : sum t ≡ 0 → Refused t l NoChannel
-  no_channel none =
-      refused t l NoChannel (omega arith) (passed 6 (λ h. absurd (omega arith)) (λ h. absurd (omega arith)) (λ h. absurd (omega arith))) (none_channel t none)
-      (λ s _ less _. omega arith)
 
   module _ (some : 0 < sum t) where
     -- refusal 14

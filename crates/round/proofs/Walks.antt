@@ -1,10 +1,8 @@
 -- A walk over pairs, by slot and then by channel, that keeps the largest value and the first pair that has it.
 use Rattle.std.proofs.Common.{◌≡◌, ℕ, ◌+◌, ◌<◌, ◌≤◌, true, ltb, ◌⊎◌, List, length, is_some, Some, None, sum, Option, sym, refl, ap, ◌∙◌, subst, inl, inr, ⊎_elim, arith}
 use Rattle.std.proofs.lemmas.Bool.{cases_Bool, cases_lt, ltb-true, ltb-false}
-use Rattle.penalty.specs.Cost.{Cost}
-use Rattle.round.specs.Audit.{FirstLargest}
 use Rattle.round.specs.Walk.{FirstMaximum, Found, Past, larger_of}
-use Rattle.round.specs.Lists.{Moment, Before, cost_at}
+use Rattle.round.specs.Lists.{Moment, Before}
 use Rattle.round.proofs.Counts.{channel_below}
 use Rattle.round.specs.declared.largest.Largest.{Largest}
 
@@ -95,10 +93,3 @@ past_all g t k end = found_same g (λ j b m. m.0) (λ j b m. (m, inl (omega arit
 pub found_some : (g : ℕ → ℕ → ℕ) (M : ℕ → ℕ → Type 0) (o : Option Largest) → Found g M o → (j b : ℕ) → M j b → is_some o ≡ true
 found_some g M None h j b m = absurd (h j b m)
 found_some g M (Some r) h j b m = refl
-
--- what was found over all moments is the largest cost with its first moment
-pub first_largest : (f : Cost) (t l : List ℕ) (r : Largest) → FirstMaximum (cost_at f t l) (Moment t) r → FirstLargest f t l r
-first_largest f t l r h = record {
-  largest = record { within = h.within; attained = (r.slot, r.channel, h.moment, h.exact) };
-  first = record { moment = h.moment; costs = h.exact; none_before = λ j b m p same. let less = h.first j b m p in omega arith };
-}

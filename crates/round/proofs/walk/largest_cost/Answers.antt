@@ -1,4 +1,4 @@
--- The moments at 0, one slot more, and all moments.
+-- The moments at 0, one slot more, and that something is found.
 use Rattle.std.proofs.Common.{◌+◌, get_or, refl, ⊎_elim, arith}
 use Rattle.std.proofs.lemmas.List.{length-set}
 use Rattle.round.specs.Lists.{Moment}

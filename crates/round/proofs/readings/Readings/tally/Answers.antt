@@ -1,4 +1,4 @@
--- One slot more, the first slot without a channel, and the whole list.
+-- Before the first slot, and the first slot without a channel.
 use Rattle.std.proofs.Common.{refl, arith}
 use Rattle.round.proofs.Counts.{counted_none}
 use Rattle.round.proofs.Faults.{not_a_channel}
