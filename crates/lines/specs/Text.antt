@@ -8,12 +8,6 @@ pub record Written (text old new : List ℕ) (n : ℕ) : Type 0 where
   pub line : take n new ≡ text
   pub rest : drop n new ≡ drop n old
 
--- text stands in the memory from place `at` to `next`; what stood before and after it is as it was
-pub record Put (old : List ℕ) (at : ℕ) (text new : List ℕ) (next : ℕ) : Type 0 where
-  pub stops : next ≡ at + length text
-  pub front : take next new ≡ take at old ++ text
-  pub rest : drop next new ≡ drop next old
-
 -- a word and the decimal digits of a number
 abbrev pub field : List ℕ → ℕ → List ℕ
 field word n = word ++ decimal n
