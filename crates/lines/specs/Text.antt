@@ -1,5 +1,5 @@
 -- Text in memory, as lists of bytes.
-use Rattle.std.specs.Prelude.{◌≡◌, ℕ, ◌+◌, ◌≤◌, List, ◌++◌, length, take, drop, decimal}
+use Rattle.std.specs.Prelude.{◌≡◌, ℕ, ◌≤◌, List, ◌++◌, length, take, drop, decimal}
 
 -- text stands at the start of the memory, n is its length, and what stood after it is as it was
 pub record Written (text old new : List ℕ) (n : ℕ) : Type 0 where

@@ -12,6 +12,7 @@ use round::{Largest, Refusal};
 pub const LINE_BYTES: usize = 96;
 
 /// Writes the line of an audit at the start of the memory, and answers its length.
+// Memory and a length, and no text by value: docs/RULES.md has the caller lend the memory.
 pub fn audit_line(memory: &mut [u8; LINE_BYTES], answer: Result<Largest, Refusal>) -> usize
     ensures { Written (audit_text answer) memory.old memory.new result }
 {

@@ -9,6 +9,7 @@ use round::audit;
 
 /// Audits the list of an input, writes the line of the answer at the start of the memory, and
 /// answers its length.
+// Memory and a length, and no text by value: docs/RULES.md has the caller lend the memory.
 pub fn report<P: Penalty>(penalty: &P, input: &[u8], memory: &mut [u8; LINE_BYTES]) -> usize
     ensures { Reported (P.cost penalty.now) input.now memory.old memory.new result }
 {
