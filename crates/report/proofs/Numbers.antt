@@ -4,15 +4,15 @@ use Rattle.std.specs.Int.{from_be_bytes}
 use Rattle.std.specs.Simd.{first_chunks}
 use Rattle.report.specs.Input.{numbers}
 
+two-more : (k : ℕ) → 2 * suc k ≡ suc (suc (2 * k))
+two-more k = omega arith
+
 -- the first numbers are those of the first pairs
 pub numbers-take : (k : ℕ) (xs : List ℕ) → numbers (take (2 * k) xs) ≡ map (from_be_bytes w16) (take k (first_chunks 2 (length xs / 2) xs))
 numbers-take zero xs = refl
-numbers-take (suc k) [] =
-    let e : 2 * suc k ≡ suc (suc (2 * k)) = omega arith in rw e refl
-numbers-take (suc k) (x ∷ []) =
-    let e : 2 * suc k ≡ suc (suc (2 * k)) = omega arith in rw e refl
+numbers-take (suc k) [] = rw two-more refl
+numbers-take (suc k) (x ∷ []) = rw two-more refl
 numbers-take (suc k) (x ∷ (y ∷ xs)) =
-    let e : 2 * suc k ≡ suc (suc (2 * k)) = omega arith in
-    let h : length (x ∷ (y ∷ xs)) / 2 ≡ suc (length xs / 2) = omega arith in
-    let w : 256 * x + y ≡ from_be_bytes w16 (x ∷ (y ∷ [])) = omega arith in
-    rw e (rw h (rw w (ap (λ ns. from_be_bytes w16 (x ∷ (y ∷ [])) ∷ ns) (numbers-take k xs))))
+    let half : length (x ∷ (y ∷ xs)) / 2 ≡ suc (length xs / 2) = omega arith in
+    let number : 256 * x + y ≡ from_be_bytes w16 (x ∷ (y ∷ [])) = omega arith in
+    rw (two-more, half, number) (ap (λ ns. from_be_bytes w16 (x ∷ (y ∷ [])) ∷ ns) (numbers-take k xs))
