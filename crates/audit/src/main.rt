@@ -10,5 +10,5 @@ fn main(rt: HostRuntime) -> io::Result<()> {
     rt.stdin().read_to_end(&mut input)?;
     let mut line = [0; LINE_BYTES];
     let length = report_absolute(&input, &mut line);
-    rt.stdout().write_all(&line[0..length])
+    rt.stdout().write_all(&line[..length])
 }

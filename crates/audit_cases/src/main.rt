@@ -1,7 +1,7 @@
 // Runs the audit over many inputs, one after another on standard input, and prints the line of each.
 #![tactic(auto)]
 
-ghost use Rattle.std.specs.Prelude.{◌<◌, length, Some, None};
+ghost use Rattle.std.specs.Prelude.{◌<◌, length, IfSome};
 
 use report::{LINE_BYTES, report_absolute};
 use std::io;
@@ -9,16 +9,10 @@ use std::io::{Read, Write};
 
 // The first case, and the cases after it: a case is its length in four bytes, and then its bytes.
 fn next_case(cases: &[u8]) -> Option<(&[u8], &[u8])>
-    ensures { elim result [ None ↦ Unit {0} | Some parts ↦ length parts.1.now < length cases.now ] }
+    ensures { IfSome result (λ parts. length parts.1.now < length cases.now) }
 {
-    let [a, b, c, d, rest @ ..] = cases else {
-        return None;
-    };
-    let length = u32::from_be_bytes([*a, *b, *c, *d]) as usize;
-    if length > rest.len() {
-        return None;
-    }
-    Some(rest.split_at(length))
+    let (length, rest) = cases.split_first_chunk()?;
+    rest.split_at_checked(u32::from_be_bytes(*length) as usize)
 }
 
 fn main(rt: HostRuntime) -> io::Result<()> {
@@ -28,7 +22,7 @@ fn main(rt: HostRuntime) -> io::Result<()> {
     let mut cases = input.as_slice();
     while let Some((case, rest)) = next_case(cases) {
         let length = report_absolute(case, &mut line);
-        rt.stdout().write_all(&line[0..length])?;
+        rt.stdout().write_all(&line[..length])?;
         cases = rest;
     }
     Ok(())

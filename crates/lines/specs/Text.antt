@@ -1,5 +1,5 @@
 -- Text in memory, as lists of bytes.
-use Rattle.std.specs.Prelude.{◌≡◌, ℕ, ◌+◌, ◌≤◌, List, ◌++◌, length, take, drop, decimal}
+use Rattle.std.specs.Prelude.{◌≡◌, ℕ, ◌≤◌, List, ◌++◌, length, take, drop, decimal}
 
 -- text stands at the start of the memory, n is its length, and what stood after it is as it was
 pub record Written (text old new : List ℕ) (n : ℕ) : Type 0 where
@@ -7,12 +7,6 @@ pub record Written (text old new : List ℕ) (n : ℕ) : Type 0 where
   pub fits : n ≤ length new
   pub line : take n new ≡ text
   pub rest : drop n new ≡ drop n old
-
--- text stands in the memory from place `at` to `next`; what stood before and after it is as it was
-pub record Put (old : List ℕ) (at : ℕ) (text new : List ℕ) (next : ℕ) : Type 0 where
-  pub stops : next ≡ at + length text
-  pub front : take next new ≡ take at old ++ text
-  pub rest : drop next new ≡ drop next old
 
 -- a word and the decimal digits of a number
 abbrev pub field : List ℕ → ℕ → List ℕ

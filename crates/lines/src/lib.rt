@@ -2,6 +2,5 @@
 #![tactic(auto)]
 
 mod audited;
-mod put;
 
 pub use audited::{LINE_BYTES, audit_line};

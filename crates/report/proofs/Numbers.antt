@@ -1,32 +1,18 @@
--- The numbers that pairs of bytes make, pair after pair.
-use Rattle.std.proofs.Common.{◌≡◌, ℕ, ◌+◌, ◌-◌, ◌*◌, ◌/◌, ◌<◌, ◌≤◌, List, [], ◌∷◌, ◌++◌, length, get_or, take, drop, sym, refl, ap, ◌∙◌, append_assoc, arith}
-use Rattle.std.proofs.lemmas.List.{append-nil, length-take-le, length-drop, take-append-drop, take_more}
+-- The numbers of an input, pair after pair.
+use Rattle.std.proofs.Common.{◌≡◌, ℕ, zero, suc, ◌+◌, ◌*◌, ◌/◌, List, [], ◌∷◌, length, take, map, refl, ap, arith, w16}
+use Rattle.std.specs.Int.{from_be_bytes}
+use Rattle.std.specs.Simd.{first_chunks}
 use Rattle.report.specs.Input.{numbers}
 
--- whole pairs in front make their own numbers
-numbers-append : (n : ℕ) (xs ys : List ℕ) → length xs ≡ 2 * n → numbers (xs ++ ys) ≡ numbers xs ++ numbers ys
-numbers-append n [] ys e = refl
-numbers-append n (x ∷ []) ys e = absurd (omega arith)
-numbers-append n (x ∷ (y ∷ xs)) ys e = ap (λ ns. (256 * x + y) ∷ ns) (numbers-append (n - 1) xs ys (omega arith))
+two-more : (k : ℕ) → 2 * suc k ≡ suc (suc (2 * k))
+two-more k = omega arith
 
--- one pair more
-pub numbers_more : (xs : List ℕ) (i : ℕ) → 2 * i + 1 < length xs → numbers (take (2 * (i + 1)) xs) ≡ numbers (take (2 * i) xs) ++ (256 * get_or xs (2 * i) 0 + get_or xs (2 * i + 1) 0) ∷ []
-numbers_more xs i h =
-    let even : 2 * (i + 1) ≡ 2 * i + 1 + 1 = omega arith in
-    let first = take_more xs (2 * i) 0 (omega arith) in
-    let second = take_more xs (2 * i + 1) 0 h in
-    let two : take (2 * (i + 1)) xs ≡ take (2 * i) xs ++ (get_or xs (2 * i) 0 ∷ (get_or xs (2 * i + 1) 0 ∷ [])) =
-    ap (λ n. take n xs) even ∙ second ∙ ap (λ l. l ++ (get_or xs (2 * i + 1) 0 ∷ [])) first ∙ append_assoc (take (2 * i) xs) (get_or xs (2 * i) 0 ∷ []) (get_or xs (2 * i + 1) 0 ∷ []) in
-    ap numbers two ∙ numbers-append i (take (2 * i) xs) _ (length-take-le (2 * i) xs (omega arith))
-
-numbers_none : (xs : List ℕ) → length xs ≤ 1 → numbers xs ≡ []
-numbers_none [] h = refl
-numbers_none (x ∷ []) h = refl
-numbers_none (x ∷ (y ∷ xs)) h = absurd (omega arith)
-
--- the pairs are all
-pub numbers_all : (xs : List ℕ) (n : ℕ) → n ≡ length xs / 2 → numbers (take (2 * n) xs) ≡ numbers xs
-numbers_all xs n e =
-    let rest : numbers (drop (2 * n) xs) ≡ [] = numbers_none (drop (2 * n) xs) (omega (arith, length-drop (2 * n) xs)) in
-    let parts = numbers-append n (take (2 * n) xs) (drop (2 * n) xs) (length-take-le (2 * n) xs (omega arith)) in
-    sym (ap numbers (sym (take-append-drop (2 * n) xs)) ∙ parts ∙ ap (λ l. numbers (take (2 * n) xs) ++ l) rest ∙ append-nil (numbers (take (2 * n) xs)))
+-- the first numbers are those of the first pairs
+pub numbers-take : (k : ℕ) (xs : List ℕ) → numbers (take (2 * k) xs) ≡ map (from_be_bytes w16) (take k (first_chunks 2 (length xs / 2) xs))
+numbers-take zero xs = refl
+numbers-take (suc k) [] = rw two-more refl
+numbers-take (suc k) (x ∷ []) = rw two-more refl
+numbers-take (suc k) (x ∷ (y ∷ xs)) =
+    let half : length (x ∷ (y ∷ xs)) / 2 ≡ suc (length xs / 2) = omega arith in
+    let number : 256 * x + y ≡ from_be_bytes w16 (x ∷ (y ∷ [])) = omega arith in
+    rw (two-more, half, number) (ap (λ ns. from_be_bytes w16 (x ∷ (y ∷ [])) ∷ ns) (numbers-take k xs))

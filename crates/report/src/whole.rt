@@ -2,19 +2,19 @@
 ghost use Rattle.penalty.specs.Absolute.{absolute};
 ghost use Rattle.report.specs.Report.{Reported};
 
-use crate::input::{list_of, read_row};
+use crate::input::{list_of, row_of};
 use lines::{LINE_BYTES, audit_line};
-use penalty::{AbsoluteDeviation, CHANNELS, Penalty};
+use penalty::{AbsoluteDeviation, Penalty};
 use round::audit;
 
 /// Audits the list of an input, writes the line of the answer at the start of the memory, and
 /// answers its length.
+// Memory and a length, and no text by value: docs/RULES.md has the caller lend the memory.
 pub fn report<P: Penalty>(penalty: &P, input: &[u8], memory: &mut [u8; LINE_BYTES]) -> usize
     ensures { Reported (P.cost penalty.now) input.now memory.old memory.new result }
 {
-    let mut row = [0; CHANNELS];
-    let count = read_row(input, &mut row);
-    let answer = audit(penalty, &row[0..count], list_of(input));
+    let row = row_of(input);
+    let answer = audit(penalty, &row, list_of(input));
     audit_line(memory, answer)
 }
 
