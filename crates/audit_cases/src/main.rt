@@ -2,6 +2,7 @@
 #![tactic(auto)]
 
 ghost use Rattle.std.specs.Prelude.{◌<◌, length, IfSome};
+ghost use Rattle.std.specs.Iterator.{at_most};
 
 use report::{LINE_BYTES, report_absolute};
 use std::io;
@@ -15,15 +16,29 @@ fn next_case(cases: &[u8]) -> Option<(&[u8], &[u8])>
     rest.split_at_checked(u32::from_be_bytes(*length) as usize)
 }
 
+// The cases that bytes hold, one after another.
+#[derive(Drop)]
+struct Cases<'a>(&'a [u8]);
+
+impl<'a> Iterator for Cases<'a> {
+    type Item = &'a [u8];
+
+    ghost remaining = { λ s. at_most (length s.0.now) };
+
+    fn next(&mut self) -> Option<&'a [u8]> {
+        let (case, rest) = next_case(self.0)?;
+        self.0 = rest;
+        Some(case)
+    }
+}
+
 fn main(rt: HostRuntime) -> io::Result<()> {
     let mut input = Vec::new(rt.alloc());
     rt.stdin().read_to_end(&mut input)?;
     let mut line = [0; LINE_BYTES];
-    let mut cases = input.as_slice();
-    while let Some((case, rest)) = next_case(cases) {
+    for case in Cases(&input) {
         let length = report_absolute(case, &mut line);
         rt.stdout().write_all(&line[..length])?;
-        cases = rest;
     }
     Ok(())
 }

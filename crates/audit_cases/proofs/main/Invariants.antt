@@ -1,6 +1,0 @@
--- The cases that are left get fewer.
-use Rattle.std.proofs.Common.{length}
-use Rattle.audit_cases.proofs.main.Given as goal
-
-abbrev pub decreases-loop-case : goal.decreases-loop-case
-decreases-loop-case l = length l.cases
