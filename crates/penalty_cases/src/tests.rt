@@ -121,8 +121,8 @@ fn deepest() -> Layered<Constant, Weights> {
 }
 
 // One cost under a layer, for channel 0.
-fn constant_under<L: Layer + Drop>(constant: u64, layer: L) -> u64 {
-    cost(&Layered::over(constant_of(constant), layer), 0, 0, 0)
+fn constant_under<L: Layer + Copy>(constant: u64, layer: &L) -> u64 {
+    cost(&Layered::over(constant_of(constant), *layer), 0, 0, 0)
 }
 
 #[test]
@@ -159,28 +159,37 @@ fn order_of_layers(rt: HostRuntime) -> Result<(), Fail> {
 #[test]
 fn weights_at_the_cap(rt: HostRuntime) -> Result<(), Fail> {
     let mut weights = Weights::new();
-    assert_eq!(rt; constant_under(TOP - 1, weights), TOP - 1);
+    assert_eq!(rt; constant_under(TOP - 1, &weights), TOP - 1);
     weights.set(0, 1000)?;
-    assert_eq!(rt; constant_under(TOP - 1, weights), TOP - 1);
-    assert_eq!(rt; constant_under(TOP, weights), TOP);
+    assert_eq!(rt; constant_under(TOP - 1, &weights), TOP - 1);
+    assert_eq!(rt; constant_under(TOP, &weights), TOP);
     weights.set(0, 2)?;
-    assert_eq!(rt; constant_under(549_755_813_886, weights), 1_099_511_627_772);
-    assert_eq!(rt; constant_under(549_755_813_887, weights), 1_099_511_627_774);
-    assert_eq!(rt; constant_under(549_755_813_888, weights), 1_099_511_627_774);
+    assert_eq!(rt;
+        constant_under(549_755_813_886, &weights),
+        1_099_511_627_772
+    );
+    assert_eq!(rt;
+        constant_under(549_755_813_887, &weights),
+        1_099_511_627_774
+    );
+    assert_eq!(rt;
+        constant_under(549_755_813_888, &weights),
+        1_099_511_627_774
+    );
     weights.set(0, 0)?;
-    assert_eq!(rt; constant_under(TOP - 1, weights), 0);
-    assert_eq!(rt; constant_under(TOP, weights), TOP);
+    assert_eq!(rt; constant_under(TOP - 1, &weights), 0);
+    assert_eq!(rt; constant_under(TOP, &weights), TOP);
     Ok(())
 }
 
 #[test]
 fn bands_at_the_cap(rt: HostRuntime) -> Result<(), Fail> {
     let widest = band(16_777_216)?;
-    assert_eq!(rt; constant_under(16_777_215, widest), 0);
-    assert_eq!(rt; constant_under(16_777_216, widest), 0);
-    assert_eq!(rt; constant_under(16_777_217, widest), 1);
-    assert_eq!(rt; constant_under(TOP - 1, widest), 1_099_494_850_558);
-    assert_eq!(rt; constant_under(TOP, widest), TOP);
+    assert_eq!(rt; constant_under(16_777_215, &widest), 0);
+    assert_eq!(rt; constant_under(16_777_216, &widest), 0);
+    assert_eq!(rt; constant_under(16_777_217, &widest), 1);
+    assert_eq!(rt; constant_under(TOP - 1, &widest), 1_099_494_850_558);
+    assert_eq!(rt; constant_under(TOP, &widest), TOP);
     Ok(())
 }
 
