@@ -31,6 +31,7 @@ impl Penalty for AbsoluteDeviation {
         u64::from(q.ahead) + u64::from(q.behind)
     }
 
+    // No default in the trait: a layer that left out its own depth would have this one.
     fn depth(&self) -> u8 {
         0
     }

@@ -15,6 +15,7 @@ pub enum SettingRefusal {
 
 impl SettingRefusal {
     /// The number of the refusal.
+    // No `From`: `u8::from(refusal)` would not say that it is the refusal's number.
     pub fn number(self) -> u8
         ensures { result ≡ number self }
     {

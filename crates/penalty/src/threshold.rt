@@ -42,6 +42,7 @@ impl TryFrom<u32> for Threshold {
 
 impl Threshold {
     /// The number itself.
+    // No `From`: `u64::from(u32::from(t))` is no plainer than `u64::from(t.value())`.
     pub fn value(self) -> u32
         ensures value { result ≡ self }
         ensures within { result ≤ 16777216 }

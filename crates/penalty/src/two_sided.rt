@@ -35,6 +35,7 @@ impl Penalty for TwoSided {
         u64::from(roots()[usize::from(step(q.ahead, question.slots))])
     }
 
+    // No default in the trait: a layer that left out its own depth would have this one.
     fn depth(&self) -> u8 {
         0
     }

@@ -23,6 +23,7 @@ pub enum Refusal {
 
 impl Refusal {
     /// The number of the refusal.
+    // No `From`: the number leaves out the slot or the channel.
     pub fn number(self) -> u8
         ensures { result ≡ number self }
     {
