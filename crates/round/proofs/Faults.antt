@@ -4,7 +4,7 @@ use Rattle.std.proofs.lemmas.List.Sums.{get_or-le-sum_by}
 use Rattle.std.proofs.lemmas.Bool.{cases_eq}
 use Rattle.round.specs.Lists.{readings, Channel, times}
 use Rattle.round.proofs.Counts.{absent, readings_bound, some_channel}
-use Rattle.round.specs.Refusals.{Fault, Refused, number, value, turn}
+use Rattle.round.specs.Refusals.{Fault, Refused, RowRefused, number, value, turn}
 use Rattle.round.specs.declared.refusal.Refusal.{Refusal}
 use Rattle.round.specs.declared.refusal.Refusal.TheVariants.{RowLength, ReadingsAboveLimit, TotalAboveLimit, NoChannel, ListLength, NotAChannel, WrongCount}
 
@@ -35,20 +35,23 @@ refused t l e h p f least = record {
   first = λ s so g. ⊎_elim (λ less. no_fault t l (turn (number e)) h p s less g) (λ same. least s same.0 same.1 g) so;
 }
 
--- refusal 5
-pub total_above : (t l : List ℕ) → length t ≡ 64 → All (λ n. n ≤ 4096) t → 4096 < sum t → Refused t l TotalAboveLimit
-total_above t l long small above =
-    refused t l TotalAboveLimit (omega arith)
-    (record {
-      long = λ _. long;
-      small = λ _. readings_bound t 4096 (λ c below. small c 0 below);
-      few = λ h. absurd (omega arith);
-      some = λ h. absurd (omega arith);
-      full = λ h. absurd (omega arith);
-      known = λ h. absurd (omega arith);
-    })
-    above
-    (λ s _ less _. omega arith)
+-- refusal 5, of a row
+pub total_above : (t : List ℕ) → length t ≡ 64 → All (λ n. n ≤ 4096) t → 4096 < sum t → RowRefused t TotalAboveLimit
+total_above t long small above = record {
+  row = omega arith;
+  refused = λ l.
+      refused t l TotalAboveLimit (omega arith)
+      (record {
+        long = λ _. long;
+        small = λ _. readings_bound t 4096 (λ c below. small c 0 below);
+        few = λ h. absurd (omega arith);
+        some = λ h. absurd (omega arith);
+        full = λ h. absurd (omega arith);
+        known = λ h. absurd (omega arith);
+      })
+      above
+      (λ s _ less _. omega arith);
+}
 
 module _ (t l : List ℕ) (long : length t ≡ 64) (few : sum t ≤ 4096) where
   -- a table has passed the checks of a row

@@ -10,6 +10,7 @@ use penalty::CHANNELS;
 
 impl Readings {
     /// Refuses a list that is not complete.
+    #[tactic(auto, using(crate::proofs::Faults::wrong_length, crate::proofs::Faults::wrong_count))]
     pub fn check(&self, list: &[u8]) -> Result<(), Refusal>
         ensures { elim result [
           | Ok _ ↦ Sound self.now.by_channel × Complete self.now.by_channel list.now
@@ -30,6 +31,7 @@ impl Readings {
     }
 
     // How often each channel stands in a list of the right length.
+    #[tactic(auto, using(crate::proofs::Faults::not_a_channel))]
     fn tally(&self, list: &[u8]) -> Result<[u16; CHANNELS], Refusal>
         requires { (0 < sum self.now.by_channel) × (length list.now ≡ sum self.now.by_channel) }
         ensures { elim result [

@@ -24,6 +24,7 @@ impl TryFrom<&[u16]> for Readings {
 
     ghost try_from_gives = { λ row r. IsTable row.now r };
 
+    #[tactic(auto, using(crate::proofs::Faults::total_above))]
     fn try_from(row: &[u16]) -> Result<Readings, Refusal> {
         let Ok(by_channel) = <[u16; CHANNELS]>::try_from(row) else {
             return Err(Refusal::RowLength);
