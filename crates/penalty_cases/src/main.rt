@@ -5,7 +5,7 @@ mod pile;
 #[cfg(test)]
 mod tests;
 
-ghost use Rattle.std.specs.Prelude.{◌<◌, length, Some, None};
+ghost use Rattle.std.specs.Prelude.{◌<◌, length, IfSome};
 ghost use Rattle.std.specs.Iterator.{at_most};
 
 use penalty::{
@@ -54,7 +54,7 @@ struct Case {
 
 // The question at the front of the bytes, and the bytes after it.
 fn next_question(bytes: &[u8]) -> Option<(Question, &[u8])>
-    ensures { elim result [ None ↦ Unit {0} | Some parts ↦ length parts.1.now < length bytes.now ] }
+    ensures { IfSome result (λ parts. length parts.1.now < length bytes.now) }
 {
     let [s1, s0, channel, d1, d0, x1, x0, k1, k0, rest @ ..] = bytes else {
         return None;
@@ -71,7 +71,7 @@ fn next_question(bytes: &[u8]) -> Option<(Question, &[u8])>
 
 // The case at the front of the bytes, and the bytes after it.
 fn next_case(bytes: &[u8]) -> Option<(Case, &[u8])>
-    ensures { elim result [ None ↦ Unit {0} | Some parts ↦ length parts.1.now < length bytes.now ] }
+    ensures { IfSome result (λ parts. length parts.1.now < length bytes.now) }
 {
     let [
         bottom,
