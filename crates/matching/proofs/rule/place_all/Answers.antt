@@ -24,7 +24,7 @@ loop-filled-init c =
     let heap = c.new-heap.ensures in
     let told = c.new-channels.ensures in (
       state_begins c.clear_slots.new.windows q.next q.queued h.items.now h.len (rw c.clear_slots.ensures (arranged_blank (blank ws) (arranged_blank ws c.requires.arranged)))
-          (λ i. rw c.clear_slots.ensures (ap (λ w. w.slot) (window-blank ws i))) told.starts told.none heap.sound heap.none (omega (arith, ap length heap.untouched, c.requires.room)) told.long,
+          (λ i. rw c.clear_slots.ensures (ap (λ w. w.slot) (window-blank ws i))) told.starts told.none h.sound heap.none (omega (arith, ap length heap.untouched, c.requires.room)) told.long,
       refl,
       refl,
       refl,

@@ -34,7 +34,7 @@ returns-in-Ok c =
     let free : is_queued s.queued _ ≡ false = ap (is_queued s.queued) (sym channel) ∙ c.if-self-at.false in
     let room = room_left bs s.next s.queued h.items.now h.len c.requires.queued r next free in
     record {
-      queued = rw channel (queue_pushed bs s.next s.queued h.items.now h.len c.requires.queued r next free items len told.outcome told.sound);
+      queued = rw channel (queue_pushed bs s.next s.queued h.items.now h.len c.requires.queued r next free items len told.outcome c.push.new.self.sound);
       admitted = found_admitted bs s.next at c.args.channel c.args.slot r c.from-at.ensures c.requires.channel found s.queued c.requires.queued.queued_long;
       next = refl;
       untouched = drop_later h.items.now items len 64 (omega (arith, told.outcome.more)) told.outcome.rest;

@@ -44,7 +44,7 @@ returns c =
     let told = c.in_ok-reading.ensures in
     let channel = c.channel_of-at.ensures.0 in
     record {
-      queued = rw channel (queue_popped bs s.next s.queued h.items.now h.len c.requires.queued r items len told.outcome told.sound);
+      queued = rw channel (queue_popped bs s.next s.queued h.items.now h.len c.requires.queued r items len told.outcome c.pop.new.self.sound);
       taken = rw channel (taken_out bs s.next s.queued h.items.now h.len c.requires.queued r items len told.outcome);
       untouched = drop_later h.items.now items h.len 64 (few_ready bs s.next s.queued h.items.now h.len c.requires.queued) told.outcome.rest;
       named = told.named;
