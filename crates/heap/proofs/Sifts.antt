@@ -161,7 +161,3 @@ module _ {X : Type 0} (leq : X → X → Bool) where
     front_or_none (x ∷ xs) (suc n) o sound is =
         subst (λ (r : Option X). elim r as (λ _. Type 0) [ None ↦ suc n ≡ 0 | Some y ↦ First leq y (x ∷ xs) (suc n) ]) (sym is)
         (first_of (x ∷ xs) (suc n) x (omega arith) sound refl)
-
-  -- without the front, which changes places with the last, the others are in the order of a heap from place 1 on
-  pub heaped_from : (xs ys : List X) (m n : ℕ) → m + 1 ≡ n → ((k : ℕ) (d : X) → (k ≡ 0 → ⊥) → (k ≡ m → ⊥) → get_or ys k d ≡ get_or xs k d) → Heaped leq xs n → HeapedFrom leq 1 ys m
-  heaped_from xs ys m n one w h = λ p k d low c lt. by (w p d (omega arith) (omega arith)) (w k d (omega arith) (omega arith)) (h p k d (omega arith) c (omega arith))

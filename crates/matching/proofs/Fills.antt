@@ -1,6 +1,6 @@
 -- What a call that fills a slot makes of the round and the heap: r0 and h0 before it, r1 and h1 with all that comes
 -- admitted, and r2 and h2 without the reading that is due first.
-use Rattle.std.proofs.Common.{◌≡◌, ℕ, ◌+◌, ◌<◌, ◌≤◌, List, length, take, set, Some, None, sym, ap, ◌∙◌, subst, arith}
+use Rattle.std.proofs.Common.{◌≡◌, ℕ, ◌+◌, ◌<◌, ◌≤◌, List, length, take, set, Some, None, sym, ap, ◌∙◌, subst}
 use Rattle.matching.specs.Matchings.{IsCrowd, crowd_of}
 use Rattle.matching.specs.Queues.{TakenOut, is_ready, next_of}
 use Rattle.matching.specs.Rounds.{AdmitsBelow, IsFilled, Readies, Takes, next_place}
@@ -25,10 +25,6 @@ module _ (r0 r1 : Round) (h0 h1 : Readies) (t : ℕ) (few : t < length r0.window
     -- the same of the windows before the call
     out : TakenOut (blank r0.windows.now) (next_place r1 h1) (next_place r2 h2) (is_ready r1.waiting) (is_ready r2.waiting) r
     out = subst (λ (l : List Window). TakenOut (blank l) (next_place r1 h1) (next_place r2 h2) (is_ready r1.waiting) (is_ready r2.waiting) r) same takes
-
-    -- its place is one of the records
-    pub fill_within : r.place < length r0.windows.now
-    fill_within = omega (arith, out.was.within, length-blank r0.windows.now)
 
     -- where it is late, the slots up to its latest are crowded
     pub fill_late : r.latest < t + 1 → (ws : List Window) → ws ≡ r0.windows.now → (a : ℕ) → LastMovable ws r.latest a → (crowd : Crowd) → crowd ≡ crowd_of ws (a + 1) r.latest → IsCrowd (blank r0.windows.now) crowd

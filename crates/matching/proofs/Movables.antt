@@ -57,7 +57,7 @@ pub last_movable_is : (ws : List Window) (m : ℕ) → LastMovable ws m (fold (�
 last_movable_is ws m =
     let g = greatest m ws 0 in
     record {
-      found = ⊎_elim inl (λ there. let parts = and_parts _ _ there.2 in inr (there.0, there.1, there.3, ltb-true m (window ws there.0).latest parts.0)) g.found;
-      before = ⊎_elim (λ none. omega (arith, none)) (λ there. let parts = and_parts _ _ there.2 in omega (arith, there.3, leb-true (window ws there.0).slot m parts.1)) g.found;
+      found = ⊎_elim inl (λ there. let parts = and_parts (ltb m (window ws there.0).latest) (leb (window ws there.0).slot m) there.2 in inr (there.0, there.1, there.3, ltb-true m (window ws there.0).latest parts.0)) g.found;
+      before = ⊎_elim (λ none. omega (arith, none)) (λ there. let parts = and_parts (ltb m (window ws there.0).latest) (leb (window ws there.0).slot m) there.2 in omega (arith, there.3, leb-true (window ws there.0).slot m parts.1)) g.found;
       last = λ i here later upto. g.all i here (and_from _ _ (lt-ltb m (window ws i).latest later) (le-leb (window ws i).slot m upto));
     }

@@ -1,5 +1,5 @@
 -- The ready and the waiting readings after a push and after a pop.
-use Rattle.std.proofs.Common.{◌≡◌, ℕ, ◌+◌, ◌-◌, ◌<◌, ◌≤◌, Bool, true, false, cond, ◌⊎◌, List, [], ◌∷◌, ◌++◌, length, get_or, take, drop, set, replicate, Option, Some, None, is_none, count_by, sym, refl, ap, ◌∙◌, subst, inl, inr, ⊎_elim, arith}
+use Rattle.std.proofs.Common.{◌≡◌, ℕ, ◌+◌, ◌-◌, ◌<◌, ◌≤◌, true, false, cond, ◌⊎◌, List, [], ◌∷◌, ◌++◌, length, get_or, take, drop, set, replicate, Option, Some, None, is_none, count_by, sym, refl, ap, ◌∙◌, subst, inr, ⊎_elim, arith}
 use Rattle.std.specs.Option.{unwrap_or}
 use Rattle.std.specs.List.{AllByRecursion}
 use Rattle.std.proofs.ByRecursion.{All-get_or, All-weaker}
@@ -10,7 +10,7 @@ use Rattle.std.proofs.lemmas.Bool.{cases_Bool, cases_eq, cases_lt, eq-eqb, eqb-f
 use Rattle.std.proofs.lemmas.Bool.Decides.{nat_tests}
 use Rattle.heap.specs.Heaps.{Popped, Pushed, Sound}
 use Rattle.heap.proofs.Kept.{popped_all, popped_sum, pushed_all, pushed_sum}
-use Rattle.matching.specs.Queues.{Admitted, AdmittedAt, Comes, Coming, IsReading, NextUpTo, Queued, Starts, TakenOut, channel_at, is_ready, next_of, of_channel, ready_place}
+use Rattle.matching.specs.Queues.{AdmittedAt, Comes, Coming, IsReading, NextUpTo, Queued, Starts, TakenOut, channel_at, is_ready, next_of, of_channel, ready_place}
 use Rattle.matching.specs.Ready.{due}
 use Rattle.matching.specs.Windows.{window}
 use Rattle.matching.specs.declared.ready.Ready.{Ready}
@@ -49,13 +49,6 @@ module _ (bs : List Window) (waiting : List (Option ℕ)) (items : List Ready) (
       let once : (c : ℕ) → count_by (of_channel bs c) (take len items) ≤ 1 = λ c. let one = q.once c in grind arith in
       omega (arith, few_keys (λ r. channel_at bs r.place) 64 (take len items) kept_below once, kept_long)
 
-  -- where none is ready, none is of any channel
-  pub none_ready : len ≡ 0 → (c : ℕ) → is_ready waiting c ≡ false
-  none_ready none c =
-      let empty : count_by (of_channel bs c) (take len items) ≡ 0 = ap (λ n. count_by (of_channel bs c) (take n items)) none in
-      let one = q.once c in
-      grind arith
-
   module _ (r : Ready) (is : IsReading bs r) (waits : get_or waiting (channel_at bs r.place) (Some 0) ≡ Some r.place) where
     -- the next reading of its channel waits, so none of that channel is ready
     free : is_ready waiting (channel_at bs r.place) ≡ false
@@ -75,10 +68,6 @@ module _ (bs : List Window) (waiting : List (Option ℕ)) (items : List Ready) (
         omega (arith, few_keys (λ s. channel_at bs s.place) 64 (r ∷ take len items) (is.channel, kept_below) once, kept_long)
 
     module _ (items' : List Ready) (len' : ℕ) (push : Pushed r items len items' len') where
-      -- what waits after the push
-      waiting' : List (Option ℕ)
-      waiting' = set waiting (channel_at bs r.place) None
-
       -- of its channel none waits any more
       ready_here : is_ready (set waiting (channel_at bs r.place) None) (channel_at bs r.place) ≡ true
       ready_here = ap is_none (get_or-set_same waiting (channel_at bs r.place) None (Some 0) (omega (arith, q.long, is.channel)))
@@ -269,36 +258,6 @@ module _ (bs : List Window) (waiting : List (Option ℕ)) (items : List Ready) (
 
   pub taken_at : TakenOut bs (next_of bs waiting (take len items)) (next_of bs (set waiting k (Some (r.place + 1))) (take len' items')) (is_ready waiting) (is_ready (set waiting k (Some (r.place + 1)))) r
   taken_at = rw at (taken_out bs waiting items len sound q r items' len' pop)
-
--- the channels below m + 1, of which only channel m was looked at
-pub admitted_more : (bs : List Window) (t : ℕ) (next next' next'' : ℕ → ℕ) (before middle after : ℕ → Bool) (m : ℕ) →
-    Admitted bs t next next' before middle m → AdmittedAt bs t next' next'' middle after m → Admitted bs t next next'' before after (m + 1)
-admitted_more bs t next next' next'' before middle after m old here = record {
-  same = λ c. here.same c ∙ old.same c;
-  marked = λ c below comes. ⊎_elim
-      (λ same. ap after same ∙ here.marked (subst (λ (i : ℕ). Comes bs i m t) (sym (old.same m)) (subst (λ (k : ℕ). Comes bs (next k) k t) same comes)))
-      (λ other. here.others c other ∙ old.marked c (omega arith) comes)
-      (cases_eq c m);
-  only = λ c mark. ⊎_elim
-      (λ same.
-      let at : Comes bs (next' m) m t → Comes bs (next c) c t = λ comes.
-      subst (λ (k : ℕ). Comes bs (next k) k t) (sym same) (subst (λ (i : ℕ). Comes bs i m t) (old.same m) comes) in
-      ⊎_elim (λ was. old.only c (ap middle same ∙ was)) (λ comes. inr (at comes)) (here.only (ap after (sym same) ∙ mark)))
-      (λ other. old.only c (sym (here.others c other) ∙ mark))
-      (cases_eq c m);
-}
-
--- nothing has changed of a channel whose next reading is ready, or does not come
-pub admitted_same : (bs : List Window) (t : ℕ) (next : ℕ → ℕ) (ready : ℕ → Bool) (c : ℕ) → (Comes bs (next c) c t → ready c ≡ true) → AdmittedAt bs t next next ready ready c
-admitted_same bs t next ready c stays = record { same = λ b. refl; marked = stays; only = λ mark. inl mark; others = λ b other. refl }
-
--- no channel is below 0, so nothing has changed
-pub admitted_none : (bs : List Window) (t : ℕ) (next : ℕ → ℕ) (ready : ℕ → Bool) → Admitted bs t next next ready ready 0
-admitted_none bs t next ready = record { same = λ c. refl; marked = λ c below comes. absurd (omega arith); only = λ c mark. inl mark }
-
--- the same of fewer channels
-pub admitted_upto : (bs : List Window) (t : ℕ) (next next' : ℕ → ℕ) (before after : ℕ → Bool) (m n : ℕ) → n ≤ m → Admitted bs t next next' before after m → Admitted bs t next next' before after n
-admitted_upto bs t next next' before after m n le h = record { same = h.same; marked = λ c below. h.marked c (omega arith); only = h.only }
 
 -- before any reading is placed none is ready
 pub queue_begins : (bs : List Window) (waiting : List (Option ℕ)) (items : List Ready) (len : ℕ) → Starts bs waiting → len ≡ 0 → 64 ≤ length items → Queued bs waiting items len

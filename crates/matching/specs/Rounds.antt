@@ -1,5 +1,5 @@
 -- What the calls on a round r and the heap h of its ready readings say of them, before and after.
-use Rattle.std.specs.Prelude.{◌≡◌, ℕ, take, drop, Option}
+use Rattle.std.specs.Prelude.{◌≡◌, ℕ, List, take, drop, Option}
 use Rattle.heap.specs.declared.lent.Heap.{Heap}
 use Rattle.matching.specs.Queues.{Admitted, AdmittedAt, Coming, Queued, Taken, is_ready, next_of}
 use Rattle.matching.specs.States.{State}
@@ -24,9 +24,9 @@ next_place r h = next_of (blank r.windows.now) r.waiting (take h.len h.items.now
 abbrev pub IsFilled : Round → Readies → ℕ → Type 0
 IsFilled r h t = State (blank r.windows.now) r.windows.now t (next_place r h) (is_ready r.waiting)
 
--- the next reading of channel c, if it waits and its earliest is at most t
-abbrev pub ComesBy : Round → Readies → ℕ → ℕ → Option Ready → Type 0
-ComesBy r h c t reading = Coming (blank r.windows.now) r.waiting (take h.len h.items.now) c t reading
+-- the next reading of channel c, if it waits and its earliest is at most t, whichever readings are ready
+abbrev pub ComesBy : Round → ℕ → ℕ → Option Ready → Type 0
+ComesBy r c t reading = (kept : List Ready) → Coming (blank r.windows.now) r.waiting kept c t reading
 
 -- the next reading of channel c is ready where it was, or where its earliest is at most t
 abbrev pub Admits : Round → Readies → Round → Readies → ℕ → ℕ → Type 0

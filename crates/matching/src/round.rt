@@ -1,10 +1,10 @@
-// A round while its slots are filled by Glover's rule: slot after slot, the ready reading that is due first.
-ghost use Rattle.std.specs.Prelude.{◌≡◌, ℕ, ◌+◌, ◌<◌, ◌≤◌, List, length, OnOk, IfErr};
+// A round while its slots are filled by Glover's rule: slot after slot, the ready reading that is
+// due first.
+ghost use Rattle.std.specs.Prelude.{◌≡◌, ℕ, ◌+◌, ◌<◌, ◌≤◌, length, OnOk, IfErr};
 ghost use Rattle.matching.specs.Matchings.{IsCrowd, crowd_of};
-ghost use Rattle.matching.specs.Queues.{Coming, Starts};
+ghost use Rattle.matching.specs.Queues.{Starts};
 ghost use Rattle.matching.specs.States.{LastMovable};
 ghost use Rattle.matching.specs.Windows.{Arranged, Arranged-prop, blank};
-ghost use Rattle.matching.specs.declared.ready.Ready.{Ready as reading};
 
 use crate::answer::Crowd;
 use crate::ready::Ready;
@@ -12,15 +12,17 @@ use crate::slots::{clear_slots, count_inside, last_movable, set_slot};
 use crate::window::{CHANNELS, Window};
 use heap::Heap;
 
-/// The windows of a round while its slots are filled, and which readings wait. Of each channel at most one reading is
-/// ready, its next one: the ends of its window are nowhere before those of the channel's later readings, so none of
-/// these is due before it. The heap of the ready readings stands beside the round: where a round held it too, the
-/// toolchain did not see what is left in the memory that was lent for both.
+/// The windows of a round while its slots are filled, and which readings wait. Of each channel at
+/// most one reading is ready, its next one: the ends of its window are nowhere before those of the
+/// channel's later readings, so none of these is due before it.
+// The heap of the ready readings stands beside it: in it, what is left in the lent windows could
+// not be proved.
 #[derive(Drop)]
 pub(crate) struct Round<'a> {
     // The windows, with the slots that are given so far.
     windows: &'a mut [Window],
-    // For each channel number the place of its next reading, while that is not ready; free for a channel without one.
+    // For each channel number the place of its next reading, while that is not ready; free for a
+    // channel without one.
     waiting: [Option<u16>; CHANNELS],
     ghost arranged: { Arranged (blank windows.now) } by { Arranged-prop (blank windows.now) },
 }
@@ -47,7 +49,8 @@ impl<'a> Round<'a> {
         self.windows.len() as u16
     }
 
-    // Fills the slot after the first `filled` slots, which are filled already, or shows slots that are crowded.
+    // Fills the slot after the first `filled` slots, which are filled already, or shows slots that
+    // are crowded.
     pub(crate) fn fill_next(
         &mut self,
         ready: &mut Heap<'_, Ready>,
@@ -104,8 +107,8 @@ impl<'a> Round<'a> {
 
     // The next reading of a channel, if it waits and its earliest has come.
     fn coming(&self, channel: u8, slot: u16) -> Option<Ready>
-        requires { (channel < 64) × (length self.now.waiting ≡ 64) }
-        ensures { (kept : List reading) → Coming (blank self.now.windows.now) self.now.waiting kept channel slot result }
+        requires { channel < 64 }
+        ensures { ComesBy self.now channel slot result }
     {
         let place = self.waiting[usize::from(channel)]?;
         let window = self.windows.get(usize::from(place))?;
@@ -140,7 +143,8 @@ impl<'a> Round<'a> {
         self.crowd(slot + 1, self.slots())
     }
 
-    // The crowd where a reading is late: the slots up to its latest, from where no reading before them could make room.
+    // The crowd where a reading is late: the slots up to its latest, from where no reading before
+    // them could make room.
     fn crowd_upto(&self, latest: u16) -> Crowd
         requires { latest ≤ length self.now.windows.now }
         ensures { (a : ℕ) × LastMovable self.now.windows.now latest a × (result ≡ crowd_of self.now.windows.now (a + 1) latest) }
@@ -160,7 +164,8 @@ impl<'a> Round<'a> {
     }
 }
 
-// The place of the first reading of each channel; what stands there for a channel without readings is free.
+// The place of the first reading of each channel; what stands there for a channel without readings
+// is free.
 fn first_places(windows: &[Window]) -> [Option<u16>; CHANNELS]
     requires { Arranged (blank windows.now) }
     ensures { Starts (blank windows.now) result }
