@@ -53,7 +53,8 @@ fn matched(windows: &mut [Window], ready: u8) -> Result<(), Unplaced> {
     place(windows, &mut memory[..usize::from(ready).min(MOST_READY)])
 }
 
-// Whether more windows lie wholly inside the slots of the round that are named than there are slots, and as many as is said.
+// Whether more windows lie wholly inside the named slots of the round than there are slots, and as many
+// as is said.
 fn is_crowded(
     windows: &[Window],
     Crowd {
