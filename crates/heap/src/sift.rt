@@ -28,6 +28,7 @@ pub(crate) fn sift_up<T: Ordered>(items: &mut [T], start: usize)
     ensures same { Rearranged (start + 1) items.old items.new }
     ensures heaped { Heaped T.leq items.new (start + 1) }
 {
+    // A loop, since each place is found from the one before it.
     let mut at = start;
     while at > 0 {
         let parent = parent_of(at);
@@ -64,6 +65,7 @@ pub(crate) fn sift_down<T: Ordered>(items: &mut [T], len: usize)
     ensures same { Rearranged len items.old items.new }
     ensures heaped { Heaped T.leq items.new len }
 {
+    // A loop, since each place is found from the one before it.
     let mut at = 0;
     while at < len / 2 {
         let child = least_child(items, at, len);

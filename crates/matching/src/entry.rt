@@ -27,6 +27,7 @@ pub fn place(windows: &mut [Window], ready: &mut [Ready]) -> Result<(), Unplaced
     }
     let mut heap = Heap::new(ready);
     let mut round = Round::new(windows);
+    // By number, since each slot is filled after those before it.
     for filled in 0..round.slots() {
         round.fill_next(&mut heap, filled)?;
     }

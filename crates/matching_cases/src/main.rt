@@ -55,23 +55,16 @@ fn matched(windows: &mut [Window], ready: u8) -> Result<(), Unplaced> {
 
 // Whether more windows lie wholly inside the named slots of the round than there are slots, and as many
 // as is said.
-fn is_crowded(
-    windows: &[Window],
-    Crowd {
-        first,
-        last,
-        number,
-    }: Crowd,
-) -> bool {
+fn is_crowded(windows: &[Window], crowd: Crowd) -> bool {
     let inside = windows
         .iter()
-        .filter(|window| window.earliest >= first && window.latest <= last)
+        .filter(|window| window.earliest >= crowd.first && window.latest <= crowd.last)
         .count();
-    1 <= first
-        && first <= last
-        && usize::from(last) <= windows.len()
-        && usize::from(number) == inside
-        && inside > usize::from(last - first) + 1
+    1 <= crowd.first
+        && crowd.first <= crowd.last
+        && usize::from(crowd.last) <= windows.len()
+        && usize::from(crowd.number) == inside
+        && inside > usize::from(crowd.last - crowd.first) + 1
 }
 
 // The line of a case: the slots in the order of the windows, or what else is answered.
@@ -85,15 +78,12 @@ fn line_of(heap: Global, windows: &mut [Window], ready: u8) -> anyhow::Result<St
             }
         }
         Err(Unplaced::Crowded(crowd)) if is_crowded(windows, crowd) => write!(line, "CROWDED")?,
-        Err(
-            Unplaced::Crowded(
-                Crowd {
-                    first,
-                    last,
-                    number,
-                },
-            ),
-        ) => {
+        Err(Unplaced::Crowded(crowd)) => {
+            let Crowd {
+                first,
+                last,
+                number,
+            } = crowd;
             write!(line, "NOT CROWDED {first} {last} {number}")?;
         }
         Err(Unplaced::ReadyPlaces) => write!(line, "REFUSED READY")?,
@@ -106,6 +96,7 @@ fn main(rt: HostRuntime) -> anyhow::Result<()> {
     let mut input = Vec::new(rt.alloc());
     rt.stdin().read_to_end(&mut input)?;
     let mut cases = input.as_slice();
+    // A loop, since a case can only be found after the one before it.
     while let Some((ready, bytes, rest)) = next_case(cases) {
         let mut windows = windows_of(rt.alloc(), bytes)?;
         let line = line_of(rt.alloc(), windows.as_mut_slice(), ready)?;
