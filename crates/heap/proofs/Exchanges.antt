@@ -49,8 +49,8 @@ module _ {X : Type 0} where
 
   module _ (leq : X → X → Bool) (m : ℕ) (x : X) (xs ys zs : List X) (e : ys ≡ swap xs 0 m) (at : x ≡ get_or ys m x) (long : length zs ≡ length xs) (s : Rearranged m ys zs) where
     -- of m + 1 elements the first changes places with the last, and those before that are rearranged
-    popped_front : m < length xs → First leq x xs (m + 1) → Popped leq x xs (m + 1) zs m
-    popped_front lt first =
+    pub pops : m < length xs → First leq x xs (m + 1) → Popped leq x xs (m + 1) zs m
+    pops lt first =
         let w = rearranged_swap (m + 1) xs ys 0 m (omega arith) (omega arith) (omega arith) e in
         let same : length ys ≡ length xs = ap length e ∙ length-swap xs 0 m in
         let front : take (m + 1) ys ≡ take m ys ++ x ∷ [] = take_more ys m x (omega arith) ∙ ap (λ y. take m ys ++ y ∷ []) (sym at) in
@@ -64,7 +64,3 @@ module _ {X : Type 0} where
           rest = past ∙ w.rest;
           long = long;
         }
-
-    -- the same, of n elements
-    pub pops : (n : ℕ) → m + 1 ≡ n → n ≤ length xs → First leq x xs n → Popped leq x xs n zs m
-    pops n one le first = subst (λ k. First leq x xs k → Popped leq x xs k zs m) one (popped_front (omega arith)) first

@@ -1,10 +1,10 @@
 -- How one element comes to its place in a heap: over the elements by place, f before an exchange and g after it.
-use Rattle.std.proofs.Common.{◌≡◌, ℕ, zero, suc, ◌+◌, ◌-◌, ◌*◌, ◌/◌, ◌<◌, ◌≤◌, Bool, true, false, List, length, get_or, take, refl, ap, ◌∙◌, ⊎_elim, arith}
+use Rattle.std.proofs.Common.{◌≡◌, ℕ, zero, suc, ◌+◌, ◌-◌, ◌*◌, ◌/◌, ◌<◌, ◌≤◌, Bool, true, false, List, [], ◌∷◌, get_or, take, slice_get, Option, None, Some, sym, refl, ap, ◌∙◌, subst, ⊎_elim, arith}
 use Rattle.std.proofs.lemmas.List.Edits.{Swapped}
 use Rattle.std.proofs.ByRecursion.{All-from_get_or}
 use Rattle.std.proofs.lemmas.List.{get_or-take, length-take-le}
 use Rattle.std.proofs.lemmas.Bool.{cases_Bool, cases_eq}
-use Rattle.heap.specs.Heaps.{Child, First, Heaped, HeapedFrom, LeastChild}
+use Rattle.heap.specs.Heaps.{Child, First, Heaped, HeapedFrom, LeastChild, Sound}
 
 -- place k is a child of place p
 child : (p k : ℕ) → p * 2 + 1 ≤ k → k ≤ p * 2 + 2 → Child p k
@@ -144,16 +144,20 @@ module _ {X : Type 0} (leq : X → X → Bool) where
         (cases_eq k 0)
 
     -- the front of a heap comes first
-    pub first_of : (xs : List X) (n : ℕ) (x : X) → 0 < n → n ≤ length xs → ((d : X) → x ≡ get_or xs 0 d) → Heaped leq xs n → First leq x xs n
-    first_of xs n x some le is h = record {
+    pub first_of : (xs : List X) (n : ℕ) (x : X) → 0 < n → Sound leq xs n → x ≡ get_or xs 0 x → First leq x xs n
+    first_of xs n x some sound is = record {
       some = some;
-      front = is x;
+      front = is;
       before = All-from_get_or (λ y. leq x y ≡ true) (take n xs) x
           (λ i lt.
-          let long = length-take-le n xs le in
-          by (is x) (get_or-take n xs i x (omega arith)) (front_leq xs n x h i i (omega arith) (omega arith)));
+          let long = length-take-le n xs sound.room in
+          by is (get_or-take n xs i x (omega arith)) (front_leq xs n x sound.heaped i i (omega arith) (omega arith)));
     }
 
-  -- without the front, which changes places with the last, the others are in the order of a heap from place 1 on
-  pub heaped_from : (xs ys : List X) (m n : ℕ) → m + 1 ≡ n → ((k : ℕ) (d : X) → (k ≡ 0 → ⊥) → (k ≡ m → ⊥) → get_or ys k d ≡ get_or xs k d) → Heaped leq xs n → HeapedFrom leq 1 ys m
-  heaped_from xs ys m n one w h = λ p k d low c lt. by (w p d (omega arith) (omega arith)) (w k d (omega arith) (omega arith)) (h p k d (omega arith) c (omega arith))
+    -- the first of the elements that are kept, or nothing where none is
+    pub front_or_none : (xs : List X) (n : ℕ) (o : Option X) → Sound leq xs n → o ≡ slice_get (take n xs) 0 → elim o as (λ _. Type 0) [ None ↦ n ≡ 0 | Some x ↦ First leq x xs n ]
+    front_or_none xs zero o sound is = subst (λ (r : Option X). elim r as (λ _. Type 0) [ None ↦ zero ≡ 0 | Some x ↦ First leq x xs zero ]) (sym is) refl
+    front_or_none [] (suc n) o sound is = let room = sound.room in absurd (omega arith)
+    front_or_none (x ∷ xs) (suc n) o sound is =
+        subst (λ (r : Option X). elim r as (λ _. Type 0) [ None ↦ suc n ≡ 0 | Some y ↦ First leq y (x ∷ xs) (suc n) ]) (sym is)
+        (first_of (x ∷ xs) (suc n) x (omega arith) sound refl)

@@ -23,7 +23,7 @@ pub record LeastChild {X : Type 0} (leq : X → X → Bool) (xs : List X) (p n c
   pub kept : c < n
   pub least : (k : ℕ) (d : X) → Child p k → k < n → leq (slice_index_or xs c d) (slice_index_or xs k d) ≡ true
 
--- what every call of a heap asks and leaves; `new` gives it
+-- what is so of every heap: the memory holds n elements, and they are in the order of a heap
 pub record Sound {X : Type 0} (leq : X → X → Bool) (xs : List X) (n : ℕ) : Type 0 where
   pub room : n ≤ length xs
   pub heaped : Heaped leq xs n

@@ -1,7 +1,8 @@
 // What the heap asks of its elements: an order that is total and transitive.
 ghost use Rattle.std.specs.Prelude.{◌≡◌, Bool, true, false};
 
-/// A kind of element that a heap can keep.
+/// A kind of element that a heap can keep. It asks less than std's `Ord`: no `==`, and two elements that may each come
+/// out before the other need not be equal.
 pub trait Ordered: Copy {
     // Whether the first value may come out before the second: it is equal or first in the order.
     ghost leq: { Self → Self → Bool };

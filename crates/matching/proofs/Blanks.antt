@@ -2,6 +2,7 @@
 use Rattle.std.proofs.Common.{◌≡◌, ℕ, zero, suc, List, [], ◌∷◌, length, get_or, set, sym, refl, ap, ◌∙◌, arith}
 use Rattle.std.proofs.lemmas.List.{length-map, map-set, set-get_or}
 use Rattle.matching.specs.Matchings.{inside, within}
+use Rattle.matching.specs.Queues.{channel_at}
 use Rattle.matching.specs.Windows.{bare, blank, window, with_slot}
 use Rattle.matching.specs.declared.window.Window.{Window}
 use Rattle.matching.proofs.Counting.{count-cons}
@@ -19,6 +20,10 @@ window-blank (w ∷ ws) (suc i) = window-blank ws i
 -- a record that was read at place i, which the code may name otherwise
 pub read-blank : (ws : List Window) (i k : ℕ) (w : Window) → k ≡ i → ((d : Window) → w ≡ get_or ws k d) → window (blank ws) i ≡ bare w
 read-blank ws i k w same read = window-blank ws i ∙ ap bare (ap (window ws) (sym same) ∙ sym (read (window [] 0)))
+
+-- a channel that was read at place i
+pub channel-blank : (ws : List Window) (i k c : ℕ) → k ≡ i → c ≡ (window ws k).channel → c ≡ channel_at (blank ws) i
+channel-blank ws i k c same read = read ∙ ap (λ j. (window ws j).channel) same ∙ sym (ap (λ w. w.channel) (window-blank ws i))
 
 -- without their slots, records and records without slots are the same
 pub blank-blank : (ws : List Window) → blank (blank ws) ≡ blank ws

@@ -1,5 +1,5 @@
 -- Counting the elements of a list that pass a test.
-use Rattle.std.proofs.Common.{◌≡◌, ℕ, zero, suc, ◌+◌, ◌<◌, ◌≤◌, Bool, true, false, cond, not, ◌&&◌, eqb, ltb, List, [], ◌∷◌, map, length, get_or, count_by, sym, refl, ap, ◌∙◌, ⊎_elim, arith}
+use Rattle.std.proofs.Common.{◌≡◌, ℕ, zero, suc, ◌+◌, ◌<◌, ◌≤◌, Bool, true, false, cond, not, ◌&&◌, eqb, ltb, List, [], ◌∷◌, map, length, get_or, count_by, sum_by, sym, refl, ap, ◌∙◌, ⊎_elim, arith}
 use Rattle.std.specs.List.{range_with_len, AllByRecursion}
 use Rattle.std.proofs.lemmas.List.FromFn.{fill_by_all, get_or-range_with_len, length-range_with_len}
 use Rattle.std.proofs.ByRecursion.{All-weaker}
@@ -85,6 +85,32 @@ module _ {X : Type 0} where
   count_all p xs all i d h =
       let both = count_both p xs in
       not-false (p (get_or xs i d)) (count_none (λ x. not (p x)) xs i d (omega arith) h)
+
+  -- where none are counted, a sum over those that pass is 0
+  pub sum_none : (p : X → Bool) (f : X → ℕ) (xs : List X) → count_by p xs ≡ 0 → sum_by (λ x. cond (p x) (f x) 0) xs ≡ 0
+  sum_none p f [] none = refl
+  sum_none p f (x ∷ xs) none =
+      let step = count-cons p x xs in
+      let sum = sum_by-cons (λ y. cond (p y) (f y) 0) x xs in
+      let rest = sum_none p f xs (grind arith) in
+      grind arith
+
+  -- where one is counted, a sum over those that pass is that of the element that passes
+  pub sum_one : (p : X → Bool) (f : X → ℕ) (xs : List X) (i : ℕ) (d : X) → count_by p xs ≡ 1 → i < length xs → p (get_or xs i d) ≡ true →
+      sum_by (λ x. cond (p x) (f x) 0) xs ≡ f (get_or xs i d)
+  sum_one p f [] i d one h passes = absurd (omega arith)
+  sum_one p f (x ∷ xs) zero d one h passes =
+      let step = count-cons p x xs in
+      let sum = sum_by-cons (λ y. cond (p y) (f y) 0) x xs in
+      let rest = sum_none p f xs (grind arith) in
+      grind arith
+  sum_one p f (x ∷ xs) (suc i) d one h passes =
+      let step = count-cons p x xs in
+      let sum = sum_by-cons (λ y. cond (p y) (f y) 0) x xs in
+      let some = count_here p xs i d (omega arith) passes in
+      let first : p x ≡ false = ⊎_elim (λ t. absurd (grind arith)) (λ f. f) (cases_Bool (p x)) in
+      let rest = sum_one p f xs i d (grind arith) (omega arith) passes in
+      grind arith
 
   -- a test that every element passes counts them all
   count_every : (p : X → Bool) (xs : List X) → AllByRecursion (λ x. p x ≡ true) xs → count_by p xs ≡ length xs

@@ -2,12 +2,12 @@
 use Rattle.std.proofs.Common.{◌≡◌, ℕ, ◌+◌, ◌-◌, ◌<◌, ◌≤◌, Bool, true, ◌&&◌, leb, List, [], length, arith}
 use Rattle.std.proofs.lemmas.Bool.{and_parts, leb-true}
 use Rattle.matching.specs.Windows.{window}
-use Rattle.matching.specs.Matchings.{Assignment, Crowd}
+use Rattle.matching.specs.Matchings.{Assignment, IsCrowded}
 use Rattle.matching.specs.declared.window.Window.{Window}
 use Rattle.matching.proofs.Counting.{pigeonhole}
 
 -- the slots a to b have too few places for the windows inside them
-pub crowd_rules_out : (ws : List Window) (a b number : ℕ) → Crowd ws a b number →
+pub crowd_rules_out : (ws : List Window) (a b number : ℕ) → IsCrowded ws a b number →
     (slot : ℕ → ℕ) → Assignment ws slot → ⊥
 crowd_rules_out ws a b number crowd slot assigned =
     let inner : Window → Bool = λ w. leb a w.earliest && leb w.latest b in

@@ -1,21 +1,15 @@
 -- The placing before the first slot and after the last one, and what is said of the records that were given.
-use Rattle.std.proofs.Common.{◌≡◌, ℕ, ◌+◌, ◌<◌, ◌≤◌, Bool, false, List, [], length, replicate, count_by, sym, refl, ap, ◌∙◌, subst, inr, ⊎_elim, arith}
+use Rattle.std.proofs.Common.{◌≡◌, ℕ, ◌+◌, ◌<◌, List, [], length, Option, count_by, sym, refl, ap, ◌∙◌, inr, ⊎_elim, arith}
 use Rattle.std.proofs.lemmas.Bool.{both_ways, cases_lt, ltb-true}
-use Rattle.heap.specs.Heaps.{Sound}
-use Rattle.matching.specs.Matchings.{Answered, Crowd, Placement}
-use Rattle.matching.specs.Queues.{Queued, Starts, is_queued}
-use Rattle.matching.specs.Ready.{due}
+use Rattle.matching.specs.Matchings.{IsCrowded, Placement}
+use Rattle.matching.specs.Queues.{Starts, is_ready, next_of}
 use Rattle.matching.specs.States.{Filled, State, has_slot}
 use Rattle.matching.specs.Windows.{Arranged, blank, window}
 use Rattle.matching.specs.declared.ready.Ready.{Ready}
-use Rattle.matching.specs.declared.answer.Placing.{Placing}
-use Rattle.matching.specs.declared.answer.Placing.TheVariants.{Crowded}
 use Rattle.matching.specs.declared.window.Window.{Window}
 use Rattle.matching.proofs.Blanks.{inside-blank, length-blank, length_same, window-blank, window_same}
 use Rattle.matching.proofs.Counting.{count_all, count_some}
-use Rattle.matching.proofs.Crowds.{crowd_rules_out}
 use Rattle.matching.proofs.Progress.{progress_none}
-use Rattle.matching.proofs.Queueing.{no_mark, queue_begins}
 
 -- records without slots are arranged where the records are
 pub arranged_blank : (ws : List Window) → Arranged ws → Arranged (blank ws)
@@ -30,7 +24,7 @@ arranged_blank ws a =
     }
 
 -- a crowded interval is one whatever slots stand in the records
-pub crowd_same : (ws bs : List Window) → blank ws ≡ bs → (a b number : ℕ) → Crowd bs a b number → Crowd ws a b number
+pub crowd_same : (ws bs : List Window) → blank ws ≡ bs → (a b number : ℕ) → IsCrowded bs a b number → IsCrowded ws a b number
 crowd_same ws bs same a b number crowd = record {
   from = crowd.from;
   upward = crowd.upward;
@@ -38,12 +32,6 @@ crowd_same ws bs same a b number crowd = record {
   counted = crowd.counted ∙ sym (inside-blank a b ws bs same);
   over = crowd.over;
 }
-
--- and leaves no assignment
-pub crowd_answered : (ws ws' bs : List Window) (answer : Placing) (a b number : ℕ) → answer ≡ Crowded a b number → blank ws ≡ bs → Crowd bs a b number → Answered ws ws' answer
-crowd_answered ws ws' bs answer a b number is same crowd =
-    let here = crowd_same ws bs same a b number crowd in
-    subst (Answered ws ws') (sym is) (here, crowd_rules_out ws a b number here)
 
 -- no record has a slot at first
 none_counted : (ws : List Window) → ((i : ℕ) → (window ws i).slot ≡ 0) → count_by has_slot ws ≡ 0
@@ -55,20 +43,18 @@ none_counted ws none = ⊎_elim
     (cases_lt 0 (count_by has_slot ws))
 
 -- before the first slot
-pub state_begins : (ws : List Window) (next : List ℕ) (queued : List Bool) (items : List Ready) (len : ℕ) →
-    Arranged (blank ws) → ((i : ℕ) → (window ws i).slot ≡ 0) → Starts (blank ws) next → queued ≡ replicate 64 false →
-    Sound due items len → len ≡ 0 → 64 ≤ length items → length next ≡ 64 → State (blank ws) ws 0 next queued items len
-state_begins ws next queued items len arranged none starts unmarked sound empty room long = record {
+pub state_begins : (ws : List Window) (waiting : List (Option ℕ)) (kept : List Ready) → kept ≡ [] → Arranged (blank ws) → ((i : ℕ) → (window ws i).slot ≡ 0) → Starts (blank ws) waiting →
+    State (blank ws) ws 0 (next_of (blank ws) waiting kept) (is_ready waiting)
+state_begins ws waiting kept empty arranged none starts = rw empty (record {
   slots = record {
     arranged = arranged;
     same = refl;
     counted = none_counted ws none;
     progress = progress_none (length (blank ws)) (λ i. (window (blank ws) i).earliest) (λ i. (window (blank ws) i).latest) (λ i. (window ws i).slot) (λ i here. none i);
   };
-  cursors = record { ahead = λ j here free. starts j here; behind = λ j here upto. none j };
-  come = λ c mark. absurd (both_ways _ (ap (λ (l : List Bool). is_queued l c) unmarked ∙ no_mark c) mark);
-  queue = subst (λ (l : List Bool). Queued (blank ws) next l items len) (sym unmarked) (queue_begins (blank ws) next items len sound empty room long);
-}
+  cursors = record { ahead = λ j here free. starts.first j here; behind = λ j here upto. none j };
+  come = λ c mark. absurd (both_ways _ (starts.all_wait c) mark);
+})
 
 -- after the last slot
 pub placement : (bs ws : List Window) (t : ℕ) → t ≡ length bs → Filled bs ws t → Placement ws

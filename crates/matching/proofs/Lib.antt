@@ -3,6 +3,8 @@ pub mod Blanks
 pub mod Counting
 pub mod Crowds
 pub mod Ends
+pub mod Fills
+pub mod Movables
 pub mod Orders
 pub mod Progress
 pub mod Queueing

@@ -1,10 +1,10 @@
 -- One slot more: the reading that the queue gives is placed in it, or an interval of slots is crowded.
 use Rattle.std.proofs.Common.{◌≡◌, ℕ, ◌+◌, ◌-◌, ◌<◌, ◌≤◌, Bool, true, false, cond, not, ltb, leb, ◌⊎◌, List, [], length, set, count_by, sym, ap, ◌∙◌, subst, inl, inr, ⊎_elim, arith}
-use Rattle.std.proofs.lemmas.List.{get_or_past, get_or-set_other, get_or-set_same, length-set}
+use Rattle.std.proofs.lemmas.List.{get_or-set_other, get_or-set_same}
 use Rattle.std.proofs.lemmas.List.Sums.{sum_by-set}
 use Rattle.std.proofs.lemmas.Bool.{and_from, and_parts, both_ways, cases_eq, cases_lt, le-leb, le-ltb, leb-true, lt-ltb, ltb-false, not-true}
-use Rattle.matching.specs.Matchings.{Crowd, inside, within}
-use Rattle.matching.specs.Queues.{Admitted, Queued, TakenOut, channel_at, is_queued, next_of}
+use Rattle.matching.specs.Matchings.{IsCrowded, inside, within}
+use Rattle.matching.specs.Queues.{Admitted, Comes, TakenOut, channel_at}
 use Rattle.matching.specs.States.{Come, Cursors, Filled, LastMovable, Sooner, State, has_slot}
 use Rattle.matching.specs.Windows.{blank, window, with_slot}
 use Rattle.matching.specs.declared.ready.Ready.{Ready}
@@ -35,7 +35,7 @@ module _ (bs ws : List Window) (t : ℕ) (f : Filled bs ws t) where
 
   -- where no reading without a slot comes by slot t + 1, the slots after it are crowded
   crowd_after : t < length bs → ((j : ℕ) → j < length bs → (window ws j).slot ≡ 0 → t + 1 < (window bs j).earliest) →
-      Crowd bs (t + 1 + 1) (length bs) (inside (t + 1 + 1) (length bs) ws)
+      IsCrowded bs (t + 1 + 1) (length bs) (inside (t + 1 + 1) (length bs) ws)
   crowd_after some none =
       let both = count_both has_slot ws in
       let fewer = count_weaker (λ w. not (has_slot w)) (within (t + 1 + 1) (length bs)) ws (window [] 0)
@@ -55,7 +55,7 @@ module _ (bs ws : List Window) (t : ℕ) (f : Filled bs ws t) where
 
   -- where a reading without a slot is too late for slot t + 1, the slots up to its latest are crowded
   crowd_before : (i : ℕ) → i < length bs → (window ws i).slot ≡ 0 → (window bs i).latest ≤ t → (a : ℕ) → LastMovable ws (window bs i).latest a →
-      Crowd bs (a + 1) (window bs i).latest (inside (a + 1) (window bs i).latest ws)
+      IsCrowded bs (a + 1) (window bs i).latest (inside (a + 1) (window bs i).latest ws)
   crowd_before i here free late a movable =
       let e : ℕ → ℕ = λ k. (window bs k).earliest in
       let l : ℕ → ℕ = λ k. (window bs k).latest in
@@ -80,50 +80,52 @@ module _ (bs ws : List Window) (t : ℕ) (f : Filled bs ws t) where
         over = omega arith;
       }
 
--- a mark that is taken away is not there
-cleared : (marks : List Bool) (c : ℕ) → is_queued (set marks c false) c ≡ false
-cleared marks c = ⊎_elim
-    (λ here. get_or-set_same marks c false false here)
-    (λ past. get_or_past (set marks c false) c false (omega (arith, length-set marks c false)))
-    (cases_lt c (length marks))
+module _ (bs ws : List Window) (t : ℕ) (next next' : ℕ → ℕ) (before ready : ℕ → Bool) (state : State bs ws t next before) (admitted : Admitted bs (t + 1) next next' before ready 64) where
+  -- the earliest of every reading that is ready now is at most t + 1
+  come_now : Come bs next' ready (t + 1)
+  come_now c mark =
+      let same = ap (λ i. (window bs i).earliest) (admitted.same c) in
+      ⊎_elim (λ was. omega (arith, state.come c was)) (λ comes. omega (arith, comes.2)) (admitted.only c mark)
 
-module _ (bs ws : List Window) (t : ℕ) (next : List ℕ) (queued : List Bool) (items : List Ready) (len : ℕ) (state : State bs ws t next queued items len)
-    (marks : List Bool) (admitted : Admitted bs next (t + 1) queued marks 64) where
-  -- the earliest of every reading that is in the heap now is at most t + 1
-  come_now : Come bs next marks (t + 1)
-  come_now c mark = ⊎_elim (λ was. omega (arith, state.come c was)) (λ comes. comes.2) (admitted.only c mark)
+  -- the next readings are still the first ones without a slot
+  cursors_now : Cursors bs ws next'
+  cursors_now = subst (Cursors bs ws) (λ i c. sym (λ j. admitted.same c j) i) state.cursors
 
-  -- a reading without a slot that could stand in slot t + 1 has the next reading of its channel in the heap, which is not due after it
+  -- the next reading of a channel is ready where it comes by t + 1
+  marked_now : (c : ℕ) → c < 64 → Comes bs (next' c) c (t + 1) → ready c ≡ true
+  marked_now c below comes = admitted.marked c below (subst (λ (i : ℕ). Comes bs i c (t + 1)) (admitted.same c) comes)
+
+  -- a reading without a slot that could stand in slot t + 1 has a ready one of its channel, which is not due after it
   in_heap : (j : ℕ) → j < length bs → (window ws j).slot ≡ 0 → (window bs j).earliest ≤ t + 1 →
-      (is_queued marks (channel_at bs j) ≡ true) × (next_of next (channel_at bs j) ≤ j) × ((window bs (next_of next (channel_at bs j))).latest ≤ (window bs j).latest)
+      (ready (channel_at bs j) ≡ true) × (next' (channel_at bs j) ≤ j) × ((window bs (next' (channel_at bs j))).latest ≤ (window bs j).latest)
   in_heap j here free opens =
-      let upto = state.cursors.ahead j here free in
+      let upto = cursors_now.ahead j here free in
       let usable = state.slots.arranged.usable j here in
-      let ends = ends_rise bs state.slots.arranged (next_of next (channel_at bs j)) j upto.0 here upto.1 in (
-        admitted.marked (channel_at bs j) usable.channel (omega (arith, upto.0), upto.1, omega (arith, ends.0)),
+      let ends = ends_rise bs state.slots.arranged (next' (channel_at bs j)) j upto.0 here upto.1 in (
+        marked_now (channel_at bs j) usable.channel (omega (arith, upto.0), upto.1, omega (arith, ends.0)),
         upto.0,
         ends.1,
       )
 
-  -- where no reading is in the heap, those without a slot come later
-  none_comes : ((c : ℕ) → is_queued marks c ≡ false) → (j : ℕ) → j < length bs → (window ws j).slot ≡ 0 → t + 1 < (window bs j).earliest
+  -- where no reading is ready, those without a slot come later
+  none_comes : ((c : ℕ) → ready c ≡ false) → (j : ℕ) → j < length bs → (window ws j).slot ≡ 0 → t + 1 < (window bs j).earliest
   none_comes none j here free = ⊎_elim
       (λ later. later)
       (λ opens. absurd (both_ways _ (none (channel_at bs j)) (in_heap j here free opens).0))
       (cases_lt (t + 1) (window bs j).earliest)
 
   -- so the slots after t + 1 are crowded
-  pub step_none : (n : ℕ) → n ≡ length bs → t < n → ((c : ℕ) → is_queued marks c ≡ false) → Crowd bs (t + 1 + 1) n (inside (t + 1 + 1) n ws)
-  step_none n is some none = subst (λ (k : ℕ). Crowd bs (t + 1 + 1) k (inside (t + 1 + 1) k ws)) (sym is) (crowd_after bs ws t state.slots (omega arith) (none_comes none))
+  pub step_none : (n : ℕ) → n ≡ length bs → t < n → ((c : ℕ) → ready c ≡ false) → IsCrowded bs (t + 1 + 1) n (inside (t + 1 + 1) n ws)
+  step_none n is some none = subst (λ (k : ℕ). IsCrowded bs (t + 1 + 1) k (inside (t + 1 + 1) k ws)) (sym is) (crowd_after bs ws t state.slots (omega arith) (none_comes none))
 
-  module _ (next' : List ℕ) (marks' : List Bool) (r : Ready) (out : TakenOut bs next marks next' marks' r) where
+  module _ (next'' : ℕ → ℕ) (ready' : ℕ → Bool) (r : Ready) (out : TakenOut bs next' next'' ready ready' r) where
     -- the reading that is taken out has no slot yet
     out_free : (window ws r.place).slot ≡ 0
-    out_free = state.cursors.behind r.place out.was.within (omega (arith, out.was.front))
+    out_free = cursors_now.behind r.place out.was.within (omega (arith, out.front))
 
     -- it may stand in slot t + 1
     out_come : (window bs r.place).earliest ≤ t + 1
-    out_come = omega (arith, come_now (channel_at bs r.place) out.marked, ap (λ i. (window bs i).earliest) out.was.front)
+    out_come = omega (arith, come_now (channel_at bs r.place) out.marked, ap (λ i. (window bs i).earliest) out.front)
 
     -- and it is due before every other that may
     out_first : (j : ℕ) → j < length bs → (window ws j).slot ≡ 0 → (j ≡ r.place → ⊥) → (window bs j).earliest ≤ t + 1 → Sooner (λ i. (window bs i).latest) r.place j
@@ -136,10 +138,10 @@ module _ (bs ws : List Window) (t : ℕ) (next : List ℕ) (queued : List Bool) 
         grind arith
 
     -- where its latest is before slot t + 1, the slots up to its latest are crowded
-    pub step_late : r.latest < t + 1 → (a : ℕ) → LastMovable ws r.latest a → Crowd bs (a + 1) r.latest (inside (a + 1) r.latest ws)
+    pub step_late : r.latest < t + 1 → (a : ℕ) → LastMovable ws r.latest a → IsCrowded bs (a + 1) r.latest (inside (a + 1) r.latest ws)
     step_late late a movable =
         let latest = out.was.latest in
-        subst (λ (k : ℕ). Crowd bs (a + 1) k (inside (a + 1) k ws)) (sym latest)
+        subst (λ (k : ℕ). IsCrowded bs (a + 1) k (inside (a + 1) k ws)) (sym latest)
         (crowd_before bs ws t state.slots r.place out.was.within out_free (omega arith) a (subst (λ (k : ℕ). LastMovable ws k a) latest movable))
 
     module _ (ws' : List Window) (is : ws' ≡ set ws r.place (with_slot (window ws r.place) (t + 1))) where
@@ -173,53 +175,43 @@ module _ (bs ws : List Window) (t : ℕ) (next : List ℕ) (queued : List Bool) 
             state.slots.progress out.was.within out_free out_come still out_first slot_here slot_other;
       }
 
-      -- the next reading of its channel is the one after it, those of the others are as they were
-      next_cases : (c : ℕ) → ((c ≡ channel_at bs r.place) × (next_of next' c ≡ r.place + 1)) ⊎ ((c ≡ channel_at bs r.place → ⊥) × (next_of next' c ≡ next_of next c))
-      next_cases c = ⊎_elim
-          (λ same. inl (
-            same,
-            ap (next_of next') same ∙ ap (λ (l : List ℕ). next_of l (channel_at bs r.place)) out.next_is
-                ∙ get_or-set_same next (channel_at bs r.place) (r.place + 1) 0 (omega (arith, state.queue.next_long, out.was.channel)),
-          ))
-          (λ other. inr (other, ap (λ (l : List ℕ). next_of l c) out.next_is ∙ get_or-set_other next (channel_at bs r.place) c (r.place + 1) 0 other))
-          (cases_eq c (channel_at bs r.place))
+      -- the next reading of its channel is the one after it
+      next_at : (c : ℕ) → c ≡ channel_at bs r.place → (next' c ≡ r.place) × (next'' c ≡ r.place + 1)
+      next_at c same = (ap next' same ∙ out.front, ap next'' same ∙ out.after)
 
       -- that is again the first reading of each channel without a slot
-      cursors_more : Cursors bs ws' next'
+      cursors_more : Cursors bs ws' next''
       cursors_more = record {
         ahead = λ j here free.
             let other : j ≡ r.place → ⊥ = λ same. let slot = ap (λ i. (window ws' i).slot) same ∙ slot_here in omega arith in
-            let old = state.cursors.ahead j here (sym (slot_other j other) ∙ free) in
+            let old = cursors_now.ahead j here (sym (slot_other j other) ∙ free) in
             ⊎_elim
             (λ at.
-            let place = ap (next_of next) at.0 ∙ out.was.front in
-            let after : r.place + 1 ≤ j = omega (arith, old.0) in
+            let now = next_at (channel_at bs j) at in
+            let after : r.place + 1 ≤ j = omega (arith, old.0, now.0) in
             let low = channels_rise bs state.slots.arranged r.place (r.place + 1) (omega arith) (omega arith) in
             let high = channels_rise bs state.slots.arranged (r.place + 1) j after here in
-            (omega (arith, at.1), ap (channel_at bs) at.1 ∙ omega (arith, at.0)))
-            (λ apart. (omega (arith, apart.1, old.0), ap (channel_at bs) apart.1 ∙ old.1))
-            (next_cases (channel_at bs j));
+            (omega (arith, now.1), ap (channel_at bs) now.1 ∙ omega (arith, at)))
+            (λ apart. let same = (out.others (channel_at bs j) apart).0 in (omega (arith, same, old.0), ap (channel_at bs) same ∙ old.1))
+            (cases_eq (channel_at bs j) (channel_at bs r.place));
         behind = λ j here upto. ⊎_elim
             (λ at.
-            let other : j ≡ r.place → ⊥ = λ same. omega (arith, at.1) in
-            slot_other j other ∙ state.cursors.behind j here (omega (arith, at.1, ap (next_of next) at.0 ∙ out.was.front)))
+            let now = next_at (channel_at bs j) at in
+            let other : j ≡ r.place → ⊥ = λ same. omega (arith, now.1) in
+            slot_other j other ∙ cursors_now.behind j here (omega (arith, now.0, now.1)))
             (λ apart.
-            let other : j ≡ r.place → ⊥ = λ same. apart.0 (ap (channel_at bs) same) in
-            slot_other j other ∙ state.cursors.behind j here (omega (arith, apart.1)))
-            (next_cases (channel_at bs j));
+            let other : j ≡ r.place → ⊥ = λ same. apart (ap (channel_at bs) same) in
+            slot_other j other ∙ cursors_now.behind j here (omega (arith, (out.others (channel_at bs j) apart).0)))
+            (cases_eq (channel_at bs j) (channel_at bs r.place));
       }
 
-      -- the readings that are still in the heap come as before
-      come_more : Come bs next' marks' (t + 1)
-      come_more c mark =
-          let was = ap (λ (l : List Bool). is_queued l c) out.queued_is in
-          ⊎_elim
-          (λ at.
-          let none = ap (is_queued (set marks (channel_at bs r.place) false)) at.0 ∙ cleared marks (channel_at bs r.place) in
-          absurd (both_ways _ (was ∙ none) mark))
-          (λ apart. omega (arith, come_now c (sym (get_or-set_other marks (channel_at bs r.place) c false false apart.0) ∙ sym was ∙ mark), ap (λ i. (window bs i).earliest) apart.1))
-          (next_cases c)
+      -- the readings that are still ready come as before
+      come_more : Come bs next'' ready' (t + 1)
+      come_more c mark = ⊎_elim
+          (λ at. absurd (both_ways _ (ap ready' at ∙ out.waits) mark))
+          (λ apart. let same = out.others c apart in omega (arith, come_now c (sym same.1 ∙ mark), ap (λ i. (window bs i).earliest) same.0))
+          (cases_eq c (channel_at bs r.place))
 
       -- else it takes slot t + 1
-      pub step_placed : t + 1 ≤ r.latest → (items' : List Ready) (len' : ℕ) → Queued bs next' marks' items' len' → State bs ws' (t + 1) next' marks' items' len'
-      step_placed still items' len' queue = record { slots = filled_more (omega (arith, out.was.latest)); cursors = cursors_more; come = come_more; queue = queue }
+      pub step_placed : t + 1 ≤ r.latest → State bs ws' (t + 1) next'' ready'
+      step_placed still = record { slots = filled_more (omega (arith, out.was.latest)); cursors = cursors_more; come = come_more }

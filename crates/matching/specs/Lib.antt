@@ -2,5 +2,6 @@
 pub mod Matchings
 pub mod Queues
 pub mod Ready
+pub mod Rounds
 pub mod States
 pub mod Windows

@@ -1,10 +1,9 @@
--- What the matching answers: a placement of all readings, or a crowded interval of slots.
+-- What the matching answers: a placement of all readings, or why there is none.
 use Rattle.std.specs.Prelude.{◌≡◌, ℕ, ◌+◌, ◌-◌, ◌<◌, ◌≤◌, Bool, ◌&&◌, ◌⊎◌, List, length, count_by, nat_le}
 use Rattle.matching.specs.Windows.{Arranged, window}
-use Rattle.matching.specs.declared.answer.Placing.{Placing}
-use Rattle.matching.specs.declared.answer.Placing.TheVariants.{Placed, Crowded}
-use Rattle.matching.specs.declared.answer.Unfit.{Unfit}
-use Rattle.matching.specs.declared.answer.Unfit.TheVariants.{ReadyPlaces, Windows}
+use Rattle.matching.specs.declared.answer.Crowd.{Crowd}
+use Rattle.matching.specs.declared.answer.Unplaced.{Unplaced}
+use Rattle.matching.specs.declared.answer.Unplaced.TheVariants.{ReadyPlaces, Windows, Crowded}
 use Rattle.matching.specs.declared.ready.Ready.{Ready}
 use Rattle.matching.specs.declared.window.Window.{Window}
 
@@ -33,19 +32,24 @@ abbrev pub inside : ℕ → ℕ → List Window → ℕ
 inside a b ws = count_by (within a b) ws
 
 -- the slots a to b are crowded: more windows lie wholly inside than there are slots
-pub record Crowd (ws : List Window) (a b number : ℕ) : Type 0 where
+pub record IsCrowded (ws : List Window) (a b number : ℕ) : Type 0 where
   pub from : 1 ≤ a
   pub upward : a ≤ b
   pub to : b ≤ length ws
   pub counted : number ≡ inside a b ws
   pub over : b - a + 1 < number
 
--- what is answered for the windows ws, and the records ws' that are left
-abbrev pub Answered : List Window → List Window → Placing → Type 0
-Answered ws ws' Placed = Placement ws'
-Answered ws ws' (Crowded a b number) = Crowd ws a b number × ((slot : ℕ → ℕ) → Assignment ws slot → ⊥)
+-- the slots that a crowd names are crowded
+abbrev pub IsCrowd : List Window → Crowd → Type 0
+IsCrowd ws c = IsCrowded ws c.first c.last c.number
 
--- why windows or ready places are refused: too few ready places, or windows that are not arranged
-abbrev pub Refused : List Window → List Ready → Unfit → Type 0
-Refused ws ready ReadyPlaces = length ready < 64
-Refused ws ready Windows = (64 ≤ length ready) × (Arranged ws → ⊥)
+-- the slots a to b with the number of windows that lie wholly inside
+abbrev pub crowd_of : List Window → ℕ → ℕ → Crowd
+crowd_of ws a b = record { first = a; last = b; number = inside a b ws }
+
+-- why the windows ws have no slots with the ready places `ready`, and what is left of both: fewer than 64 ready places,
+-- or windows that are not arranged, and then nothing has changed; or crowded slots, and then no assignment exists
+abbrev pub IsReason : List Window → List Ready → List Window → List Ready → Unplaced → Type 0
+IsReason ws ready ws' ready' ReadyPlaces = (length ready < 64) × (ws' ≡ ws) × (ready' ≡ ready)
+IsReason ws ready ws' ready' Windows = (64 ≤ length ready) × (Arranged ws → ⊥) × (ws' ≡ ws) × (ready' ≡ ready)
+IsReason ws ready ws' ready' (Crowded crowd) = (64 ≤ length ready) × Arranged ws × IsCrowd ws crowd × ((slot : ℕ → ℕ) → Assignment ws slot → ⊥)

@@ -1,19 +1,34 @@
-// What the matching answers, and why it refuses.
+// Why the readings of a round have no slots.
 
-/// Whether every reading has a slot, or which interval of slots is too crowded for that.
+/// Slots that are crowded: more windows lie wholly inside them than there are slots.
 #[derive(Clone, Copy, PartialEq, Eq, Debug)]
-pub enum Placing {
-    /// Every reading stands in a slot of its window.
-    Placed,
-    /// More windows lie wholly inside the slots `first` to `last` than there are slots; how many.
-    Crowded { first: u16, last: u16, number: u16 },
+pub struct Crowd {
+    /// The first of the slots.
+    pub first: u16,
+    /// The last of the slots.
+    pub last: u16,
+    /// How many windows lie wholly inside.
+    pub number: u16,
 }
 
-/// Why the matching does not take what it is given.
+/// Why the readings have no slots.
 #[derive(Clone, Copy, PartialEq, Eq, Debug)]
-pub enum Unfit {
+pub enum Unplaced {
     /// There are fewer than 64 ready places.
     ReadyPlaces,
     /// The windows do not stand as the matching takes them.
     Windows,
+    /// No assignment exists, since some slots are crowded.
+    Crowded(Crowd),
+}
+
+impl From<Crowd> for Unplaced {
+    ghost use Rattle.std.specs.Prelude.{◌≡◌};
+    ghost use Rattle.matching.specs.declared.answer.Unplaced.TheVariants.{Crowded};
+
+    ghost from_gives = { λ crowd unplaced. unplaced ≡ Crowded crowd };
+
+    fn from(crowd: Crowd) -> Unplaced {
+        Unplaced::Crowded(crowd)
+    }
 }

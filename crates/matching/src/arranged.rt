@@ -1,43 +1,35 @@
 // The check that windows stand as the matching takes them.
-ghost use Rattle.std.specs.Prelude.{ℕ, ◌+◌, ◌<◌, length, MatchBool};
-ghost use Rattle.matching.specs.Windows.{Arranged, Usable, Follows, window};
+ghost use Rattle.std.specs.Prelude.{◌≡◌, ◌↔◌, ℕ, ◌+◌, ◌<◌, IsTrue, length};
+ghost use Rattle.matching.specs.Windows.{Arranged, Usable, Follows, may_follow, window};
 
 use crate::window::{CHANNELS, LIMIT, Window};
 
 // Whether the matching can take the windows.
 pub(crate) fn is_arranged(windows: &[Window]) -> bool
-    ensures { MatchBool result (Arranged windows.now) (Arranged windows.now → ⊥) }
+    ensures { IsTrue result ↔ Arranged windows.now }
 {
     windows.len() <= LIMIT && all_usable(windows) && all_follow(windows)
 }
 
 // Whether every window is usable in a round of as many slots as there are windows.
 fn all_usable(windows: &[Window]) -> bool
-    ensures { MatchBool result ((i : ℕ) → i < length windows.now → Usable (length windows.now) (window windows.now i)) ((i : ℕ) × (i < length windows.now) × (Usable (length windows.now) (window windows.now i) → ⊥)) }
+    ensures { IsTrue result ↔ ((i : ℕ) → i < length windows.now → Usable (length windows.now) (window windows.now i)) }
 {
-    for window in windows {
-        if !is_usable(window, windows.len()) {
-            return false;
-        }
-    }
-    true
+    windows
+        .iter()
+        .all(|window| is_usable(window, windows.len()))
 }
 
 // Whether every record but the first may stand right after the one before it.
 fn all_follow(windows: &[Window]) -> bool
-    ensures { MatchBool result ((i : ℕ) → i + 1 < length windows.now → Follows (window windows.now i) (window windows.now (i + 1))) ((i : ℕ) × (i + 1 < length windows.now) × (Follows (window windows.now i) (window windows.now (i + 1)) → ⊥)) }
+    ensures { IsTrue result ↔ ((i : ℕ) → i + 1 < length windows.now → Follows (window windows.now i) (window windows.now (i + 1))) }
 {
-    for i in 1..windows.len() {
-        if !follows(&windows[i - 1], &windows[i]) {
-            return false;
-        }
-    }
-    true
+    windows.is_sorted_by(follows)
 }
 
 // Whether a window is that of a channel number, is not shut, and lies in a round of `slots` slots.
 fn is_usable(window: &Window, slots: usize) -> bool
-    ensures { MatchBool result (Usable slots window.now) (Usable slots window.now → ⊥) }
+    ensures { IsTrue result ↔ Usable slots window.now }
 {
     usize::from(window.channel) < CHANNELS
         && 1 <= window.earliest
@@ -47,7 +39,7 @@ fn is_usable(window: &Window, slots: usize) -> bool
 
 // Whether the second record may stand right after the first.
 fn follows(before: &Window, after: &Window) -> bool
-    ensures { MatchBool result (Follows before.now after.now) (Follows before.now after.now → ⊥) }
+    ensures { result ≡ may_follow before.now after.now }
 {
     before.channel < after.channel
         || (before.channel == after.channel

@@ -1,30 +1,35 @@
 // The call that matches windows to slots.
-ghost use Rattle.std.specs.Prelude.{◌≡◌, ◌≤◌, length, drop, Ok, Err};
-ghost use Rattle.matching.specs.Matchings.{Answered, Refused};
+ghost use Rattle.std.specs.Prelude.{◌≡◌, ◌≤◌, length, drop, OnOk, IfErr};
+ghost use Rattle.matching.specs.Matchings.{Placement, IsReason};
 ghost use Rattle.matching.specs.Windows.{Arranged, blank};
 
-use crate::answer::{Placing, Unfit};
+use crate::answer::Unplaced;
 use crate::arranged::is_arranged;
 use crate::ready::Ready;
-use crate::rule::place_all;
+use crate::round::Round;
 use crate::window::{CHANNELS, Window};
+use heap::Heap;
 
 /// Gives every reading a slot of its window, in a round of as many slots as there are windows, or
-/// shows an interval of slots that is too crowded for that. The slot fields are written, and of
-/// `ready` the first 64 places.
-pub fn place(windows: &mut [Window], ready: &mut [Ready]) -> Result<Placing, Unfit>
+/// shows slots that are too crowded for that. The slot fields are written, and of `ready` the first
+/// 64 places.
+pub fn place(windows: &mut [Window], ready: &mut [Ready]) -> Result<(), Unplaced>
     ensures windows { blank windows.new ≡ blank windows.old }
     ensures ready { drop 64 ready.new ≡ drop 64 ready.old }
-    ensures answer { elim result [
-      | Ok placing ↦ (64 ≤ length ready.old) × Arranged windows.old × Answered windows.old windows.new placing
-      | Err e ↦ Refused windows.old ready.old e × (windows.new ≡ windows.old) × (ready.new ≡ ready.old)
-    ] }
+    ensures placed { OnOk result ((64 ≤ length ready.old) × Arranged windows.old × Placement windows.new) }
+    ensures unplaced { IfErr result (IsReason windows.old ready.old windows.new ready.new) }
 {
     if ready.len() < CHANNELS {
-        return Err(Unfit::ReadyPlaces);
+        return Err(Unplaced::ReadyPlaces);
     }
     if !is_arranged(windows) {
-        return Err(Unfit::Windows);
+        return Err(Unplaced::Windows);
     }
-    Ok(place_all(windows, ready))
+    let mut heap = Heap::new(ready);
+    let mut round = Round::new(windows);
+    // By number, since each slot is filled after those before it.
+    for filled in 0..round.slots() {
+        round.fill_next(&mut heap, filled)?;
+    }
+    Ok(())
 }

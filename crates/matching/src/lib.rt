@@ -3,14 +3,13 @@
 
 mod answer;
 mod arranged;
-mod channels;
 mod entry;
 mod ready;
-mod rule;
+mod round;
 mod slots;
 mod window;
 
-pub use answer::{Placing, Unfit};
+pub use answer::{Crowd, Unplaced};
 pub use entry::place;
 pub use ready::Ready;
 pub use window::{CHANNELS, LIMIT, Window};

@@ -2,11 +2,12 @@
 ghost use Rattle.std.specs.Prelude.{◌<◌, ◌≤◌, MatchBool};
 ghost use Rattle.matching.specs.Ready.{due};
 ghost use Rattle.std.proofs.Common.{rules};
+ghost use Rattle.std.specs.Cmp.Rules.{comparing};
 
 use heap::Ordered;
 
 /// A reading that is not placed yet and whose earliest has come.
-#[derive(Clone, Copy, PartialEq, Eq, Debug, Default)]
+#[derive(Clone, Copy, PartialEq, Eq, PartialOrd, Ord, Debug, Default)]
 pub struct Ready {
     /// The last slot that it may stand in.
     pub latest: u16,
@@ -27,11 +28,11 @@ impl Ready {
 impl Ordered for Ready {
     ghost leq = { due };
 
-    ghost total = { Prim.search rules };
+    ghost total = { Prim.search (comparing, rules) };
 
-    ghost transitive = { Prim.search rules };
+    ghost transitive = { Prim.search (comparing, rules) };
 
     fn leq(&self, other: &Ready) -> bool {
-        self.latest < other.latest || (self.latest == other.latest && self.place <= other.place)
+        self <= other
     }
 }

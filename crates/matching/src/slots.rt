@@ -1,6 +1,6 @@
 // Writing and reading the slots that stand in the window records.
 ghost use Rattle.std.specs.Prelude.{◌≡◌, ◌<◌, ◌≤◌, length, slice_set};
-ghost use Rattle.matching.specs.Matchings.{inside, within};
+ghost use Rattle.matching.specs.Matchings.{inside};
 ghost use Rattle.matching.specs.States.{LastMovable};
 ghost use Rattle.matching.specs.Windows.{blank, window, with_slot};
 
@@ -27,13 +27,12 @@ pub(crate) fn set_slot(windows: &mut [Window], place: u16, slot: u16)
 pub(crate) fn last_movable(windows: &[Window], latest: u16) -> u16
     ensures { LastMovable windows.now latest result }
 {
-    let mut last = 0;
-    for window in windows {
-        if window.latest > latest && window.slot <= latest && window.slot > last {
-            last = window.slot;
-        }
-    }
-    last
+    windows
+        .iter()
+        .filter(|window| window.latest > latest && window.slot <= latest)
+        .map(|window| window.slot)
+        .max()
+        .unwrap_or(0)
 }
 
 // How many windows lie wholly inside the slots `first` to `last`.
@@ -41,18 +40,8 @@ pub(crate) fn count_inside(windows: &[Window], first: u16, last: u16) -> u16
     requires { length windows.now ≤ 4096 }
     ensures { result ≡ inside first last windows.now }
 {
-    let mut number = 0;
-    for window in windows {
-        if lies_inside(window, first, last) {
-            number += 1;
-        }
-    }
-    number
-}
-
-// Whether a window lies wholly inside the slots `first` to `last`.
-fn lies_inside(window: &Window, first: u16, last: u16) -> bool
-    ensures { result ≡ within first last window.now }
-{
-    first <= window.earliest && window.latest <= last
+    windows
+        .iter()
+        .filter(|window| first <= window.earliest && window.latest <= last)
+        .count() as u16
 }

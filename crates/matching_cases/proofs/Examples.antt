@@ -1,6 +1,6 @@
 -- The worked examples, place by place.
 use Rattle.std.proofs.Common.{◌≡◌, ℕ, zero, suc, ◌+◌, ◌<◌, ◌≤◌, refl, inl, inr, ⊎_elim, arith}
-use Rattle.matching.specs.Matchings.{Crowd, Due}
+use Rattle.matching.specs.Matchings.{IsCrowded, Due}
 use Rattle.matching.specs.Windows.{Follows, Usable, window}
 use Rattle.matching.proofs.Crowds.{crowd_rules_out}
 use Rattle.matching_cases.specs.Worked.{OneSlotForThree, TwoChannels, placed_in, slot_two}
@@ -19,7 +19,7 @@ three_follow (suc zero) h = inl (omega arith)
 three_follow (suc (suc i)) h = absurd (omega arith)
 
 -- slot 2 alone is crowded
-two_two_crowded : Crowd slot_two 2 2 3
+two_two_crowded : IsCrowded slot_two 2 2 3
 two_two_crowded = record { from = omega arith; upward = omega arith; to = omega arith; counted = refl; over = omega arith }
 
 pub one_slot_for_three_lem : OneSlotForThree

@@ -1,6 +1,6 @@
 -- The worked examples of docs/RULES.md, stated by the definitions of the matching.
 use Rattle.std.specs.Prelude.{ℕ, List, [], ◌∷◌}
-use Rattle.matching.specs.Matchings.{Assignment, Crowd, Placement}
+use Rattle.matching.specs.Matchings.{Assignment, IsCrowded, Placement}
 use Rattle.matching.specs.Windows.{Arranged}
 use Rattle.matching.specs.declared.window.Window.{Window}
 
@@ -15,10 +15,10 @@ slot_two = first_of 0 2 2 0 ∷ first_of 1 2 2 0 ∷ first_of 2 2 2 0 ∷ []
 -- they are arranged, 2 to 2, 1 to 2 and 2 to 3 are crowded with 3 windows each, 1 to 3 is not, and there is no assignment
 pub record OneSlotForThree : Type 0 where
   pub arranged : Arranged slot_two
-  pub two_two : Crowd slot_two 2 2 3
-  pub one_two : Crowd slot_two 1 2 3
-  pub two_three : Crowd slot_two 2 3 3
-  pub one_three : (number : ℕ) → Crowd slot_two 1 3 number → ⊥
+  pub two_two : IsCrowded slot_two 2 2 3
+  pub one_two : IsCrowded slot_two 1 2 3
+  pub two_three : IsCrowded slot_two 2 3 3
+  pub one_three : (number : ℕ) → IsCrowded slot_two 1 3 number → ⊥
   pub none : (slot : ℕ → ℕ) → Assignment slot_two slot → ⊥
 
 -- two channels with one reading each, which may stand in slots 1 and 2, in two slots

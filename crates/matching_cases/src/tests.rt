@@ -1,9 +1,10 @@
 // The worked matchings of docs/RULES.md, refusals, what is left in lent memory, and the heap on its own.
 ghost use Rattle.std.specs.Prelude.{nat_le};
 ghost use Rattle.std.proofs.Common.{rules};
+ghost use Rattle.std.specs.Cmp.Rules.{comparing};
 
 use heap::{Full, Heap, Ordered};
-use matching::{CHANNELS, Placing, Ready, Unfit, Window, place};
+use matching::{CHANNELS, Crowd, Ready, Unplaced, Window, place};
 use std::test::Fail;
 
 // A reading that has no slot yet.
@@ -18,7 +19,7 @@ fn window(channel: u8, reading: u16, earliest: u16, latest: u16) -> Window {
 }
 
 // The matching with 64 ready places.
-fn matched(windows: &mut [Window]) -> Result<Placing, Unfit> {
+fn matched(windows: &mut [Window]) -> Result<(), Unplaced> {
     let mut ready = [Ready::default(); CHANNELS];
     place(windows, &mut ready)
 }
@@ -26,11 +27,15 @@ fn matched(windows: &mut [Window]) -> Result<Placing, Unfit> {
 #[test]
 fn one_slot_for_three(rt: HostRuntime) -> Result<(), Fail> {
     let mut windows = [window(0, 1, 2, 2), window(1, 1, 2, 2), window(2, 1, 2, 2)];
-    let Placing::Crowded {
-        first,
-        last,
-        number,
-    } = matched(&mut windows)?
+    let Err(
+        Unplaced::Crowded(
+            Crowd {
+                first,
+                last,
+                number,
+            },
+        ),
+    ) = matched(&mut windows)
     else {
         return Err(Fail::new("three readings in one slot"));
     };
@@ -42,7 +47,7 @@ fn one_slot_for_three(rt: HostRuntime) -> Result<(), Fail> {
 #[test]
 fn channels_in_order(rt: HostRuntime) {
     let mut windows = [window(0, 1, 1, 2), window(1, 1, 1, 2)];
-    assert_eq!(rt; matched(&mut windows), Ok(Placing::Placed));
+    assert_eq!(rt; matched(&mut windows), Ok(()));
     assert_eq!(rt; windows[0].slot, 1);
     assert_eq!(rt; windows[1].slot, 2);
 }
@@ -56,7 +61,7 @@ fn latest_before_channel(rt: HostRuntime) {
         window(1, 2, 1, 4),
         window(2, 1, 1, 1),
     ];
-    assert_eq!(rt; matched(&mut windows), Ok(Placing::Placed));
+    assert_eq!(rt; matched(&mut windows), Ok(()));
     assert_eq!(rt; windows[0].slot, 2);
     assert_eq!(rt; windows[1].slot, 3);
     assert_eq!(rt; windows[2].slot, 4);
@@ -67,17 +72,17 @@ fn latest_before_channel(rt: HostRuntime) {
 #[test]
 fn nothing_ready(rt: HostRuntime) {
     let mut windows = [window(0, 1, 2, 2), window(1, 1, 2, 2)];
-    let crowded = Placing::Crowded {
+    let crowd = Crowd {
         first: 2,
         last: 2,
         number: 2,
     };
-    assert_eq!(rt; matched(&mut windows), Ok(crowded));
+    assert_eq!(rt; matched(&mut windows), Err(Unplaced::Crowded(crowd)));
 }
 
 #[test]
 fn nothing_to_place(rt: HostRuntime) {
-    assert_eq!(rt; matched(&mut []), Ok(Placing::Placed));
+    assert_eq!(rt; matched(&mut []), Ok(()));
 }
 
 #[test]
@@ -85,9 +90,9 @@ fn refused(rt: HostRuntime) {
     let whole = [window(0, 1, 1, 2), window(1, 1, 1, 2)];
     let mut windows = whole;
     let mut ready = [Ready::default(); 63];
-    assert_eq!(rt; place(&mut windows, &mut ready), Err(Unfit::ReadyPlaces));
+    assert_eq!(rt; place(&mut windows, &mut ready), Err(Unplaced::ReadyPlaces));
     assert_eq!(rt; windows[0], whole[0]);
-    let shut = Err(Unfit::Windows);
+    let shut = Err(Unplaced::Windows);
     assert_eq!(rt;
         matched(&mut [window(0, 1, 2, 1), window(1, 1, 1, 2)]),
         shut
@@ -119,18 +124,18 @@ fn refused(rt: HostRuntime) {
 }
 
 // A kind of element that comes out by its number.
-#[derive(Clone, Copy, PartialEq, Eq, Debug)]
+#[derive(Clone, Copy, PartialEq, Eq, PartialOrd, Ord, Debug)]
 struct Numbered(u32);
 
 impl Ordered for Numbered {
     ghost leq = { λ x y. nat_le x.0 y.0 };
 
-    ghost total = { Prim.search rules };
+    ghost total = { Prim.search (comparing, rules) };
 
-    ghost transitive = { Prim.search rules };
+    ghost transitive = { Prim.search (comparing, rules) };
 
     fn leq(&self, other: &Numbered) -> bool {
-        self.0 <= other.0
+        self <= other
     }
 }
 

@@ -1,25 +1,8 @@
 -- One exchange with the least child; the end where the element may come out before it, or has no child.
 use Rattle.std.proofs.Common.{get_or, arith}
-use Rattle.heap.proofs.Exchanges.{rearranged_none, rearranged_swap, rearranged_then}
-use Rattle.heap.proofs.Sifts.{downward_begins, downward_end, downward_more, downward_rests}
+use Rattle.heap.proofs.Exchanges.{rearranged_swap, rearranged_then}
+use Rattle.heap.proofs.Sifts.{downward_end, downward_more, downward_rests}
 use Rattle.heap.proofs.sift.sift_down.Goals as goal
-
-pub loop-at-init : goal.loop-at-init
-loop-at-init g c = (
-  omega arith,
-  rearranged_none c.args.len c.args.items.now,
-  downward_begins g.T.Ordered.leq c.args.items.now c.args.len c.requires.heaped,
-)
-
-pub returns-then-leq_at : goal.returns-then-leq_at
-returns-then-leq_at g c =
-    let o = g.met.T.Ordered in
-    let l = c.loop-at in
-    record {
-      same = l.invariant.1;
-      heaped = downward_rests g.T.Ordered.leq o.total o.transitive l.items l.at c.least_child-child.result c.args.len
-          c.least_child-child.ensures (λ d. c.if-leq_at.ensures d) l.invariant.2;
-    }
 
 pub loop-at-preserved : goal.loop-at-preserved
 loop-at-preserved g c =
@@ -36,7 +19,13 @@ loop-at-preserved g c =
           least.child least.kept (λ k. least.least k d) (told.by_index.0 d, told.by_index.1 d, λ k. told.by_index.2 k d) (c.if-leq_at.ensures d) (l.invariant.2 d),
     )
 
-pub returns : goal.returns
-returns g c =
+pub returns-then-leq_at-clause-heaped : goal.returns-then-leq_at-clause-heaped
+returns-then-leq_at-clause-heaped g c =
+    let o = g.met.T.Ordered in
     let l = c.loop-at in
-    record { same = l.invariant.1; heaped = downward_end g.T.Ordered.leq l.items l.at c.args.len (omega arith) l.invariant.2 }
+    downward_rests g.T.Ordered.leq o.total o.transitive l.items l.at c.least_child-child.result c.args.len c.least_child-child.ensures (λ d. c.if-leq_at.ensures d) l.invariant.2
+
+pub returns-clause-heaped : goal.returns-clause-heaped
+returns-clause-heaped g c =
+    let l = c.loop-at in
+    downward_end g.T.Ordered.leq l.items l.at c.args.len (omega arith) l.invariant.2

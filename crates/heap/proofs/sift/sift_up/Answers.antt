@@ -1,24 +1,8 @@
 -- One exchange with the parent; the end at a parent that may come out first, or at the front.
 use Rattle.std.proofs.Common.{◌+◌, get_or, arith}
-use Rattle.heap.proofs.Exchanges.{rearranged_none, rearranged_swap, rearranged_then}
-use Rattle.heap.proofs.Sifts.{upward_begins, upward_more, upward_rests, upward_top}
+use Rattle.heap.proofs.Exchanges.{rearranged_swap, rearranged_then}
+use Rattle.heap.proofs.Sifts.{upward_more, upward_rests, upward_top}
 use Rattle.heap.proofs.sift.sift_up.Goals as goal
-
-pub loop-at-init : goal.loop-at-init
-loop-at-init g c = (
-  omega arith,
-  omega arith,
-  rearranged_none (c.args.start + 1) c.args.items.now,
-  upward_begins g.T.Ordered.leq c.args.items.now c.args.start c.requires.heaped,
-)
-
-pub returns-then-leq_at : goal.returns-then-leq_at
-returns-then-leq_at g c =
-    let l = c.loop-at in
-    record {
-      same = l.invariant.2;
-      heaped = upward_rests g.T.Ordered.leq l.items c.parent_of-parent.result l.at (c.args.start + 1) c.parent_of-parent.ensures (λ d. c.if-leq_at.ensures d) l.invariant.3;
-    }
 
 pub loop-at-preserved : goal.loop-at-preserved
 loop-at-preserved g c =
@@ -36,7 +20,12 @@ loop-at-preserved g c =
           child (omega arith) (told.by_index.0 d, told.by_index.1 d, λ k. told.by_index.2 k d) (c.if-leq_at.ensures d) (l.invariant.3 d),
     )
 
-pub returns : goal.returns
-returns g c =
+pub returns-then-leq_at-clause-heaped : goal.returns-then-leq_at-clause-heaped
+returns-then-leq_at-clause-heaped g c =
     let l = c.loop-at in
-    record { same = l.invariant.2; heaped = upward_top g.T.Ordered.leq l.items l.at (c.args.start + 1) (omega arith) l.invariant.3 }
+    upward_rests g.T.Ordered.leq l.items c.parent_of-parent.result l.at (c.args.start + 1) c.parent_of-parent.ensures (λ d. c.if-leq_at.ensures d) l.invariant.3
+
+pub returns-clause-heaped : goal.returns-clause-heaped
+returns-clause-heaped g c =
+    let l = c.loop-at in
+    upward_top g.T.Ordered.leq l.items l.at (c.args.start + 1) (omega arith) l.invariant.3
