@@ -2,13 +2,14 @@
 ghost use Rattle.std.specs.Prelude.{◌≡◌, ◌↔◌, ℕ, ◌+◌, ◌<◌, IsTrue, length};
 ghost use Rattle.matching.specs.Windows.{Arranged, Usable, Follows, may_follow, window};
 
-use crate::window::{CHANNELS, LIMIT, Window};
+use crate::window::Window;
+use limits::{CHANNELS, LIMIT};
 
 // Whether the matching can take the windows.
 pub(crate) fn is_arranged(windows: &[Window]) -> bool
     ensures { IsTrue result ↔ Arranged windows.now }
 {
-    windows.len() <= LIMIT && all_usable(windows) && all_follow(windows)
+    windows.len() <= usize::from(LIMIT) && all_usable(windows) && all_follow(windows)
 }
 
 // Whether every window is usable in a round of as many slots as there are windows.

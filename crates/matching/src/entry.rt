@@ -7,8 +7,9 @@ use crate::answer::Unplaced;
 use crate::arranged::is_arranged;
 use crate::ready::Ready;
 use crate::round::Round;
-use crate::window::{CHANNELS, Window};
+use crate::window::Window;
 use heap::Heap;
+use limits::CHANNELS;
 
 /// Gives every reading a slot of its window, in a round of as many slots as there are windows, or
 /// shows slots that are too crowded for that. The slot fields are written, and of `ready` the first

@@ -11,5 +11,6 @@ mod window;
 
 pub use answer::{Crowd, Unplaced};
 pub use entry::place;
+pub use limits::{CHANNELS, LIMIT};
 pub use ready::Ready;
-pub use window::{CHANNELS, LIMIT, Window};
+pub use window::Window;

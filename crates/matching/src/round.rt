@@ -9,8 +9,9 @@ ghost use Rattle.matching.specs.Windows.{Arranged, Arranged-prop, blank};
 use crate::answer::Crowd;
 use crate::ready::Ready;
 use crate::slots::{clear_slots, count_inside, last_movable, set_slot};
-use crate::window::{CHANNELS, Window};
+use crate::window::Window;
 use heap::Heap;
+use limits::CHANNELS;
 
 /// The windows of a round while its slots are filled, and which readings wait. Of each channel at
 /// most one reading is ready, its next one: the ends of its window are nowhere before those of the

@@ -1,10 +1,4 @@
-// The window of a reading, with the slot that the matching gives it, and the limits of a round.
-
-/// How many channel numbers there are, 0 to 63.
-pub const CHANNELS: usize = 64;
-
-/// The most readings of a round, and so its most slots.
-pub const LIMIT: usize = 4_096;
+// The window of a reading, with the slot that the matching gives it.
 
 /// One reading of a channel: the slots that it may stand in, and the slot that it stands in.
 #[derive(Clone, Copy, PartialEq, Eq, Debug)]

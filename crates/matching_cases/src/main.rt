@@ -5,7 +5,8 @@
 mod tests;
 mod worked;
 
-ghost use Rattle.std.specs.Prelude.{◌<◌, length, Some, None};
+ghost use Rattle.std.specs.Prelude.{◌<◌, length, IfSome};
+ghost use Rattle.std.specs.Iterator.{at_most};
 
 use matching::{Crowd, Ready, Unplaced, Window, place};
 use std::alloc::{AllocError, Global};
@@ -20,7 +21,7 @@ const WINDOW_BYTES: usize = 7;
 
 // The number of ready places and the windows of the first case, and the cases after it.
 fn next_case(bytes: &[u8]) -> Option<(u8, &[u8], &[u8])>
-    ensures { elim result [ None ↦ Unit {0} | Some parts ↦ length parts.2.now < length bytes.now ] }
+    ensures { IfSome result (λ parts. length parts.2.now < length bytes.now) }
 {
     let [ready, n1, n0, rest @ ..] = bytes else {
         return None;
@@ -28,6 +29,22 @@ fn next_case(bytes: &[u8]) -> Option<(u8, &[u8], &[u8])>
     let size = usize::from(u16::from_be_bytes([*n1, *n0])) * WINDOW_BYTES;
     let (windows, after) = rest.split_at_checked(size)?;
     Some((*ready, windows, after))
+}
+
+// The cases that bytes hold, one after another: the number of ready places and the windows of each.
+#[derive(Drop)]
+struct Cases<'a>(&'a [u8]);
+
+impl<'a> Iterator for Cases<'a> {
+    type Item = (u8, &'a [u8]);
+
+    ghost remaining = { λ s. at_most (length s.0.now) };
+
+    fn next(&mut self) -> Option<(u8, &'a [u8])> {
+        let (ready, windows, rest) = next_case(self.0)?;
+        self.0 = rest;
+        Some((ready, windows))
+    }
 }
 
 // The window that the bytes give, with a slot that no round has.
@@ -95,13 +112,10 @@ fn line_of(heap: Global, windows: &mut [Window], ready: u8) -> anyhow::Result<St
 fn main(rt: HostRuntime) -> anyhow::Result<()> {
     let mut input = Vec::new(rt.alloc());
     rt.stdin().read_to_end(&mut input)?;
-    let mut cases = input.as_slice();
-    // A loop, since a case can only be found after the one before it.
-    while let Some((ready, bytes, rest)) = next_case(cases) {
+    for (ready, bytes) in Cases(&input) {
         let mut windows = windows_of(rt.alloc(), bytes)?;
         let line = line_of(rt.alloc(), windows.as_mut_slice(), ready)?;
         println!(rt; "{line}")?;
-        cases = rest;
     }
     Ok(())
 }
