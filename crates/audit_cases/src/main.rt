@@ -1,34 +1,21 @@
 // Runs the audit over many inputs, one after another on standard input, and prints the line of each.
 #![tactic(auto)]
 
-ghost use Rattle.std.specs.Prelude.{◌<◌, length, IfSome};
-ghost use Rattle.std.specs.Iterator.{at_most};
-
+use cases::{Case, Cases};
 use report::{LINE_BYTES, report_absolute};
 use std::io;
 use std::io::{Read, Write};
 
-// The first case, and the cases after it: a case is its length in four bytes, and then its bytes.
-fn next_case(cases: &[u8]) -> Option<(&[u8], &[u8])>
-    ensures { IfSome result (λ parts. length parts.1.now < length cases.now) }
-{
-    let (length, rest) = cases.split_first_chunk()?;
-    rest.split_at_checked(u32::from_be_bytes(*length) as usize)
-}
+// The input of one audit.
+#[derive(Clone, Copy)]
+struct Input<'a>(&'a [u8]);
 
-// The cases that bytes hold, one after another.
-#[derive(Drop)]
-struct Cases<'a>(&'a [u8]);
-
-impl<'a> Iterator for Cases<'a> {
-    type Item = &'a [u8];
-
-    ghost remaining = { λ s. at_most (length s.0.now) };
-
-    fn next(&mut self) -> Option<&'a [u8]> {
-        let (case, rest) = next_case(self.0)?;
-        self.0 = rest;
-        Some(case)
+// An input stands after its length in four bytes.
+impl<'a> Case<'a> for Input<'a> {
+    fn split_first(bytes: &'a [u8]) -> Option<(Input<'a>, &'a [u8])> {
+        let (length, rest) = bytes.split_first_chunk()?;
+        let (input, rest) = rest.split_at_checked(u32::from_be_bytes(*length) as usize)?;
+        Some((Input(input), rest))
     }
 }
 
@@ -36,7 +23,7 @@ fn main(rt: HostRuntime) -> io::Result<()> {
     let mut input = Vec::new(rt.alloc());
     rt.stdin().read_to_end(&mut input)?;
     let mut line = [0; LINE_BYTES];
-    for case in Cases(&input) {
+    for Input(case) in Cases::new(&input) {
         let length = report_absolute(case, &mut line);
         rt.stdout().write_all(&line[..length])?;
     }

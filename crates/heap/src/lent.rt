@@ -10,6 +10,7 @@ use crate::sift::{sift_up, take_front};
 pub struct Full;
 
 /// A heap that keeps its elements in the first places of the memory that it was lent.
+// The memory and a length, and no `Vec`: a heap allocates nothing, and its memory is the caller's.
 #[derive(Debug, Drop)]
 pub struct Heap<'a, T: Ordered> {
     items: &'a mut [T],

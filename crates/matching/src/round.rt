@@ -92,6 +92,7 @@ impl<'a> Round<'a> {
     }
 
     // Makes the next reading of a channel ready, where it waits and its earliest has come.
+    // A byte and no type of its own for the channel: this and `coming` alone ask that it is below 64.
     fn admit_next(&mut self, ready: &mut Heap<'_, Ready>, channel: u8, slot: u16)
         requires queued { IsQueued self.old ready.old }
         requires channel { channel < 64 }

@@ -5,9 +5,7 @@
 mod tests;
 mod worked;
 
-ghost use Rattle.std.specs.Prelude.{◌<◌, length, IfSome};
-ghost use Rattle.std.specs.Iterator.{at_most};
-
+use cases::{Case, Cases};
 use matching::{Crowd, Ready, Unplaced, Window, place};
 use std::alloc::{AllocError, Global};
 use std::fmt::Write;
@@ -19,31 +17,25 @@ const MOST_READY: usize = 80;
 // How many bytes a window has: its channel (1), its reading, its earliest and its latest (2 each).
 const WINDOW_BYTES: usize = 7;
 
-// The number of ready places and the windows of the first case, and the cases after it.
-fn next_case(bytes: &[u8]) -> Option<(u8, &[u8], &[u8])>
-    ensures { IfSome result (λ parts. length parts.2.now < length bytes.now) }
-{
-    let [ready, n1, n0, rest @ ..] = bytes else {
-        return None;
-    };
-    let size = usize::from(u16::from_be_bytes([*n1, *n0])) * WINDOW_BYTES;
-    let (windows, after) = rest.split_at_checked(size)?;
-    Some((*ready, windows, after))
+// What is to be matched: the number of ready places, and the bytes of the windows.
+#[derive(Clone, Copy)]
+struct Query<'a> {
+    ready: u8,
+    windows: &'a [u8],
 }
 
-// The cases that bytes hold, one after another: the number of ready places and the windows of each.
-#[derive(Drop)]
-struct Cases<'a>(&'a [u8]);
-
-impl<'a> Iterator for Cases<'a> {
-    type Item = (u8, &'a [u8]);
-
-    ghost remaining = { λ s. at_most (length s.0.now) };
-
-    fn next(&mut self) -> Option<(u8, &'a [u8])> {
-        let (ready, windows, rest) = next_case(self.0)?;
-        self.0 = rest;
-        Some((ready, windows))
+impl<'a> Case<'a> for Query<'a> {
+    fn split_first(bytes: &'a [u8]) -> Option<(Query<'a>, &'a [u8])> {
+        let [ready, n1, n0, rest @ ..] = bytes else {
+            return None;
+        };
+        let size = usize::from(u16::from_be_bytes([*n1, *n0])) * WINDOW_BYTES;
+        let (windows, rest) = rest.split_at_checked(size)?;
+        let query = Query {
+            ready: *ready,
+            windows,
+        };
+        Some((query, rest))
     }
 }
 
@@ -112,8 +104,8 @@ fn line_of(heap: Global, windows: &mut [Window], ready: u8) -> anyhow::Result<St
 fn main(rt: HostRuntime) -> anyhow::Result<()> {
     let mut input = Vec::new(rt.alloc());
     rt.stdin().read_to_end(&mut input)?;
-    for (ready, bytes) in Cases(&input) {
-        let mut windows = windows_of(rt.alloc(), bytes)?;
+    for Query { ready, windows } in Cases::new(&input) {
+        let mut windows = windows_of(rt.alloc(), windows)?;
         let line = line_of(rt.alloc(), windows.as_mut_slice(), ready)?;
         println!(rt; "{line}")?;
     }

@@ -6,8 +6,8 @@ mod pile;
 mod tests;
 
 ghost use Rattle.std.specs.Prelude.{◌<◌, length, IfSome};
-ghost use Rattle.std.specs.Iterator.{at_most};
 
+use cases::{Case, Cases};
 use penalty::{
     AbsoluteDeviation, Band, Question, SettingRefusal, Stop, Threshold, TwoSided, Weights,
 };
@@ -43,7 +43,7 @@ impl Bottom {
 
 // A case: which bottom, the settings of the layers over it, and a question.
 #[derive(Clone, Copy)]
-struct Case {
+struct Query {
     bottom: Bottom,
     weight_channel: u8,
     weight: u16,
@@ -69,77 +69,60 @@ fn next_question(bytes: &[u8]) -> Option<(Question, &[u8])>
     Some((question, rest))
 }
 
-// The case at the front of the bytes, and the bytes after it.
-fn next_case(bytes: &[u8]) -> Option<(Case, &[u8])>
-    ensures { IfSome result (λ parts. length parts.1.now < length bytes.now) }
-{
-    let [
-        bottom,
-        channel,
-        w1,
-        w0,
-        t3,
-        t2,
-        t1,
-        t0,
-        e3,
-        e2,
-        e1,
-        e0,
-        rest @ ..,
-    ] = bytes
-    else {
-        return None;
-    };
-    let (question, rest) = next_question(rest)?;
-    let case = Case {
-        bottom: Bottom::from(*bottom),
-        weight_channel: *channel,
-        weight: u16::from_be_bytes([*w1, *w0]),
-        tolerance: u32::from_be_bytes([*t3, *t2, *t1, *t0]),
-        limit: u32::from_be_bytes([*e3, *e2, *e1, *e0]),
-        question,
-    };
-    Some((case, rest))
-}
-
-// The cases that bytes hold, one after another.
-#[derive(Drop)]
-struct Cases<'a>(&'a [u8]);
-
-impl<'a> Iterator for Cases<'a> {
-    type Item = Case;
-
-    ghost remaining = { λ s. at_most (length s.0.now) };
-
-    fn next(&mut self) -> Option<Case> {
-        let (case, rest) = next_case(self.0)?;
-        self.0 = rest;
-        Some(case)
+impl<'a> Case<'a> for Query {
+    fn split_first(bytes: &'a [u8]) -> Option<(Query, &'a [u8])> {
+        let [
+            bottom,
+            channel,
+            w1,
+            w0,
+            t3,
+            t2,
+            t1,
+            t0,
+            e3,
+            e2,
+            e1,
+            e0,
+            rest @ ..,
+        ] = bytes
+        else {
+            return None;
+        };
+        let (question, rest) = next_question(rest)?;
+        let query = Query {
+            bottom: Bottom::from(*bottom),
+            weight_channel: *channel,
+            weight: u16::from_be_bytes([*w1, *w0]),
+            tolerance: u32::from_be_bytes([*t3, *t2, *t1, *t0]),
+            limit: u32::from_be_bytes([*e3, *e2, *e1, *e0]),
+            question,
+        };
+        Some((query, rest))
     }
 }
 
 // The cost of a case, unless one of its settings is refused.
-fn answer(case: &Case) -> Result<u64, SettingRefusal> {
+fn answer(query: &Query) -> Result<u64, SettingRefusal> {
     let mut weights = Weights::new();
-    weights.set(case.weight_channel, case.weight)?;
+    weights.set(query.weight_channel, query.weight)?;
     let layers = Layers {
         weights,
         band: Band {
-            tolerance: Threshold::try_from(case.tolerance)?,
+            tolerance: Threshold::try_from(query.tolerance)?,
         },
         stop: Stop {
-            limit: Threshold::try_from(case.limit)?,
+            limit: Threshold::try_from(query.limit)?,
         },
     };
-    Ok(case.bottom.cost(layers, case.question))
+    Ok(query.bottom.cost(layers, query.question))
 }
 
 fn main(rt: HostRuntime) -> io::Result<()> {
     let mut input = Vec::new(rt.alloc());
     rt.stdin().read_to_end(&mut input)?;
-    for case in Cases(&input) {
-        match answer(&case) {
+    for query in Cases::new(&input) {
+        match answer(&query) {
             Ok(cost) => println!(rt; "{cost}")?,
             Err(refusal) => println!(rt; "REFUSED {}", refusal.number())?,
         }

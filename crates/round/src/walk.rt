@@ -52,6 +52,7 @@ impl<'a, P: Penalty> Walk<'a, P> {
         ensures { Scanned (P.cost self.now.penalty.now) self.now.readings.now.by_channel self.now.counts slot before result }
     {
         let mut found = before;
+        // By number, since the readings, the count and the cost of each are asked for by it.
         for channel in 0..CHANNELS as u8 {
             if self.readings.of(channel) > 0 {
                 let cost = self.cost_after(slot, channel);
@@ -67,6 +68,7 @@ impl<'a, P: Penalty> Walk<'a, P> {
     }
 
     // What the count of a channel costs after a slot.
+    // A byte and no type of its own for the channel: this and `count_slot` alone ask that it is below 64.
     fn cost_after(&self, slot: u16, channel: u8) -> u64
         requires { channel < 64 }
         ensures { result ≡ P.cost self.now.penalty.now (sum self.now.readings.now.by_channel) channel (d_of self.now.readings.now.by_channel channel) (slice_index self.now.counts channel) slot }

@@ -19,6 +19,12 @@ loop-at-preserved g c =
           least.child least.kept (λ k. least.least k d) (told.by_index.0 d, told.by_index.1 d, λ k. told.by_index.2 k d) (c.if-leq_at.ensures d) (l.invariant.2 d),
     )
 
+pub returns-then-leq_at-clause-heaped : goal.returns-then-leq_at-clause-heaped
+returns-then-leq_at-clause-heaped g c =
+    let o = g.met.T.Ordered in
+    let l = c.loop-at in
+    downward_rests g.T.Ordered.leq o.total o.transitive l.items l.at c.least_child-child.result c.args.len c.least_child-child.ensures (λ d. c.if-leq_at.ensures d) l.invariant.2
+
 pub returns-clause-heaped : goal.returns-clause-heaped
 returns-clause-heaped g c =
     let l = c.loop-at in
