@@ -83,7 +83,7 @@ mod tests {
         );
     }
 
-    // The cost of a question under the absolute deviation.
+    // The cost of a question under the absolute deviation; five numbers, so that the tests read as a table.
     fn cost(slots: u16, channel: u8, readings: u16, count: u16, slot: u16) -> u64 {
         AbsoluteDeviation.cost(Question {
             slots,

@@ -17,7 +17,7 @@ pub trait Case<'a>: Sized {
 #[derive(Drop)]
 pub struct Cases<'a, C> {
     rest: &'a [u8],
-    of: PhantomData<C>,
+    kind: PhantomData<C>,
 }
 
 impl<'a, C> Cases<'a, C> {
@@ -27,7 +27,7 @@ impl<'a, C> Cases<'a, C> {
     {
         Cases {
             rest: bytes,
-            of: PhantomData,
+            kind: PhantomData,
         }
     }
 }

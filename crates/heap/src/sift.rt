@@ -41,6 +41,7 @@ pub(crate) fn sift_up<T: Ordered>(items: &mut [T], start: usize)
 }
 
 // The child of `at` that may come out before the other, among the first `len` elements.
+// The whole memory and a length, here and below: what lies past it is then said once, and not of each part lent.
 #[tactic(auto, using(crate::proofs::Sifts::least_left, crate::proofs::Sifts::least_right))]
 fn least_child<T: Ordered>(items: &[T], at: usize, len: usize) -> usize
     requires { (at * 2 + 1 < len) × (len ≤ length items.now) }

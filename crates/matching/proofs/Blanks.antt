@@ -44,6 +44,7 @@ inside_of_blank a b [] = refl
 inside_of_blank a b (w ∷ ws) =
     omega (arith, count-cons (within a b) (bare w) (blank ws), count-cons (within a b) w ws, inside_of_blank a b ws)
 
+-- the same of records that have those without slots
 pub inside-blank : (a b : ℕ) (ws bs : List Window) → blank ws ≡ bs → inside a b ws ≡ inside a b bs
 inside-blank a b ws bs same = sym (inside_of_blank a b ws) ∙ ap (inside a b) same
 

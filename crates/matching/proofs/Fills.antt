@@ -3,7 +3,7 @@
 use Rattle.std.proofs.Common.{◌≡◌, ℕ, ◌+◌, ◌<◌, ◌≤◌, List, length, take, set, Some, None, sym, ap, ◌∙◌, subst}
 use Rattle.matching.specs.Matchings.{IsCrowd, crowd_of}
 use Rattle.matching.specs.Queues.{TakenOut, is_ready, next_of}
-use Rattle.matching.specs.Rounds.{AdmitsBelow, IsFilled, Readies, Takes, next_place}
+use Rattle.matching.specs.Rounds.{AdmitsBelow, IsFilled, ReadyHeap, Takes, next_place}
 use Rattle.matching.specs.States.{LastMovable, State}
 use Rattle.matching.specs.Windows.{blank, window, with_slot}
 use Rattle.matching.specs.declared.answer.Crowd.{Crowd}
@@ -13,15 +13,15 @@ use Rattle.matching.specs.declared.window.Window.{Window}
 use Rattle.matching.proofs.Blanks.{blank-set, length-blank}
 use Rattle.matching.proofs.Steps.{step_late, step_none, step_placed}
 
-module _ (r0 r1 : Round) (h0 h1 : Readies) (t : ℕ) (few : t < length r0.windows.now) (state : IsFilled r0 h0 t) (admitted : AdmitsBelow r0 h0 r1 h1 (t + 1) 64) (same : r1.windows.now ≡ r0.windows.now) where
+module _ (r0 r1 : Round) (h0 h1 : ReadyHeap) (t : ℕ) (few : t < length r0.windows.now) (state : IsFilled r0 h0 t) (admitted : AdmitsBelow r0 h0 r1 h1 (t + 1) 64) (same : r1.windows.now ≡ r0.windows.now) where
   -- where nothing is ready, the slots after it are crowded
-  pub fill_none : (r2 : Round) (h2 : Readies) → Takes r1 h1 r2 h2 None → (ws : List Window) → ws ≡ r0.windows.now → (crowd : Crowd) → crowd ≡ crowd_of ws (t + 1 + 1) (length ws) → IsCrowd (blank r0.windows.now) crowd
+  pub fill_none : (r2 : Round) (h2 : ReadyHeap) → Takes r1 h1 r2 h2 None → (ws : List Window) → ws ≡ r0.windows.now → (crowd : Crowd) → crowd ≡ crowd_of ws (t + 1 + 1) (length ws) → IsCrowd (blank r0.windows.now) crowd
   fill_none r2 h2 takes ws here crowd told =
       let old = r0.windows.now in
       subst (IsCrowd (blank old)) (sym (told ∙ ap (λ (l : List Window). crowd_of l (t + 1 + 1) (length l)) here))
       (step_none (blank old) old t (next_place r0 h0) (next_place r1 h1) (is_ready r0.waiting) (is_ready r1.waiting) state admitted (length old) (sym (length-blank old)) few takes)
 
-  module _ (r2 : Round) (h2 : Readies) (r : Ready) (takes : Takes r1 h1 r2 h2 (Some r)) where
+  module _ (r2 : Round) (h2 : ReadyHeap) (r : Ready) (takes : Takes r1 h1 r2 h2 (Some r)) where
     -- the same of the windows before the call
     out : TakenOut (blank r0.windows.now) (next_place r1 h1) (next_place r2 h2) (is_ready r1.waiting) (is_ready r2.waiting) r
     out = subst (λ (l : List Window). TakenOut (blank l) (next_place r1 h1) (next_place r2 h2) (is_ready r1.waiting) (is_ready r2.waiting) r) same takes

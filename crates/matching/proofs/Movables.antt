@@ -22,6 +22,7 @@ module _ (m : ℕ) (w : Window) (ws : List Window) (a r : ℕ) where
   all_yes rest zero h passes = let le = rest.from in omega arith
   all_yes rest (suc i) h passes = rest.all i (omega arith) passes
 
+  -- so the greatest is that of the records behind it, from its slot on
   greatest_yes : is_movable m w ≡ true → Greatest m ws (max a w.slot) r → Greatest m (w ∷ ws) a r
   greatest_yes movable rest = record {
     from = let le = rest.from in omega arith;
@@ -37,6 +38,7 @@ module _ (m : ℕ) (w : Window) (ws : List Window) (a r : ℕ) where
   all_no fixed rest zero h passes = absurd (both_ways _ fixed passes)
   all_no fixed rest (suc i) h passes = rest.all i (omega arith) passes
 
+  -- so the greatest is that of the records behind it
   greatest_no : is_movable m w ≡ false → Greatest m ws a r → Greatest m (w ∷ ws) a r
   greatest_no fixed rest = record {
     from = rest.from;

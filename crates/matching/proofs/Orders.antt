@@ -11,6 +11,7 @@ use Rattle.matching.specs.declared.window.Window.{Window}
 follows_test : (u v : Window) → may_follow u v ≡ true → Follows u v
 follows_test u v test = grind (arith, nat_tests)
 
+-- nor may it where that test fails
 test_follows : (u v : Window) → may_follow u v ≡ false → Follows u v → ⊥
 test_follows u v test follows = grind (arith, nat_tests)
 

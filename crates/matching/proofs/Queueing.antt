@@ -31,6 +31,7 @@ due_parts x y h = grind (arith, nat_tests)
 pub waits_at : (waiting : List (Option ℕ)) (c k p : ℕ) → k ≡ c → c < length waiting → get_or waiting k None ≡ Some p → get_or waiting c (Some 0) ≡ Some p
 waits_at waiting c k p same below waits = get_or_default waiting c (Some 0) None below ∙ ap (λ i. get_or waiting i None) (sym same) ∙ waits
 
+-- where the next reading of channel c waits, that is its next reading
 pub waits_next : (bs : List Window) (waiting : List (Option ℕ)) (kept : List Ready) (c p : ℕ) → get_or waiting c (Some 0) ≡ Some p → next_of bs waiting kept c ≡ p
 waits_next bs waiting kept c p waits = ap (λ o. unwrap_or o (ready_place bs kept c)) waits
 
@@ -186,6 +187,7 @@ module _ (bs : List Window) (waiting : List (Option ℕ)) (items : List Ready) (
     waits_other : (c : ℕ) → (c ≡ channel_at bs r.place → ⊥) → get_or (set waiting (channel_at bs r.place) (Some (r.place + 1))) c (Some 0) ≡ get_or waiting c (Some 0)
     waits_other c other = get_or-set_other waiting (channel_at bs r.place) c (Some (r.place + 1)) (Some 0) other
 
+    -- the heap keeps what it should
     pub queue_popped : Queued bs (set waiting (channel_at bs r.place) (Some (r.place + 1))) items' len'
     queue_popped = record {
       room = omega (arith, q.room, pop.long);
@@ -230,12 +232,15 @@ module _ (bs : List Window) (waiting : List (Option ℕ)) (items : List Ready) (
 -- the next reading r of channel c, which waits and comes by t, becomes ready; the code names the channel k
 module _ (bs : List Window) (waiting : List (Option ℕ)) (items : List Ready) (len : ℕ) (sound : Sound due items len) (q : Queued bs waiting items len)
     (c k t : ℕ) (r : Ready) (below : c < 64) (at : k ≡ c) (told : Coming bs waiting (take len items) c t (Some r)) where
+  -- the channel's number is that of the reading
   coming_at : k ≡ channel_at bs r.place
   coming_at = at ∙ sym told.1.1
 
+  -- it is a reading of the round
   coming_reading : IsReading bs r
   coming_reading = record { within = told.1.0; channel = omega (arith, told.1.1); latest = told.2 }
 
+  -- it is the one that waits
   coming_waits : get_or waiting (channel_at bs r.place) (Some 0) ≡ Some r.place
   coming_waits = ap (λ i. get_or waiting i (Some 0)) told.1.1 ∙ told.0
 
@@ -244,18 +249,22 @@ module _ (bs : List Window) (waiting : List (Option ℕ)) (items : List Ready) (
   coming_room = room_left bs waiting items len sound q r coming_reading coming_waits
 
   module _ (items' : List Ready) (len' : ℕ) (push : Pushed r items len items' len') where
+    -- the heap keeps what it should
     pub coming_queued : Queued bs (set waiting k None) items' len'
     coming_queued = rw coming_at (queue_pushed bs waiting items len sound q r coming_reading coming_waits items' len' push)
 
+    -- the channel's next reading is ready, and nothing else changes
     pub coming_admitted : AdmittedAt bs t (next_of bs waiting (take len items)) (next_of bs (set waiting k None) (take len' items')) (is_ready waiting) (is_ready (set waiting k None)) c
     coming_admitted = rw (sym at ∙ coming_at, coming_at) (admitted_here bs waiting items len sound q r coming_reading coming_waits items' len' push t (told.1.0, refl, told.1.2))
 
 -- the reading r is taken out; the code names its channel k
 module _ (bs : List Window) (waiting : List (Option ℕ)) (items : List Ready) (len : ℕ) (sound : Sound due items len) (q : Queued bs waiting items len)
     (r : Ready) (items' : List Ready) (len' : ℕ) (pop : Popped due r items len items' len') (k : ℕ) (at : k ≡ channel_at bs r.place) where
+  -- the heap keeps what it should
   pub taken_queued : Queued bs (set waiting k (Some (r.place + 1))) items' len'
   taken_queued = rw at (queue_popped bs waiting items len sound q r items' len' pop)
 
+  -- the channel's next reading is the one after it
   pub taken_at : TakenOut bs (next_of bs waiting (take len items)) (next_of bs (set waiting k (Some (r.place + 1))) (take len' items')) (is_ready waiting) (is_ready (set waiting k (Some (r.place + 1)))) r
   taken_at = rw at (taken_out bs waiting items len sound q r items' len' pop)
 
@@ -277,6 +286,7 @@ pub record Shorter (ws rest rest' : List Window) (w : Window) : Type 0 where
   pub within : length rest' < length ws
   pub last : window ws (length rest') ≡ w
 
+-- a front of the records that ends in w is one record longer than the front before it
 pub one_less : (ws rest rest' : List Window) (w : Window) → rest ≡ take (length rest) ws → rest ≡ push rest' w → length rest ≤ length ws → Shorter ws rest rest' w
 one_less ws rest rest' w first push_is within =
     let one : length rest ≡ length rest' + 1 = ap length push_is ∙ length_push rest' w in

@@ -23,6 +23,7 @@ module _ (bs ws : List Window) (t : ℕ) (f : Filled bs ws t) where
   latest_same : (i : ℕ) → (window bs i).latest ≡ (window ws i).latest
   latest_same i = ap (λ w. w.latest) (window_same ws bs f.same i)
 
+  -- neither end of them does
   earliest_same : (i : ℕ) → (window bs i).earliest ≡ (window ws i).earliest
   earliest_same i = ap (λ w. w.earliest) (window_same ws bs f.same i)
 

@@ -46,15 +46,15 @@ pub record Arranged (ws : List Window) : Type 0 where
   pub follows : (i : ℕ) → i + 1 < length ws → Follows (window ws i) (window ws (i + 1))
 
 -- two facts that exclude each other hold in one way at most where each does
-sum-prop : {A B : Type 0} → IsProp A → IsProp B → (A → B → ⊥) → IsProp (A ⊎ B)
-sum-prop a b both (inl x) (inl y) = ap inl (a x y)
-sum-prop a b both (inr x) (inr y) = ap inr (b x y)
-sum-prop a b both (inl x) (inr y) = absurd (both x y)
-sum-prop a b both (inr x) (inl y) = absurd (both y x)
+either-prop : {A B : Type 0} → IsProp A → IsProp B → (A → B → ⊥) → IsProp (A ⊎ B)
+either-prop a b both (inl x) (inl y) = ap inl (a x y)
+either-prop a b both (inr x) (inr y) = ap inr (b x y)
+either-prop a b both (inl x) (inr y) = absurd (both x y)
+either-prop a b both (inr x) (inl y) = absurd (both y x)
 
 -- a record may stand after another in one way at most
 Follows-prop : (u v : Window) → IsProp (Follows u v)
-Follows-prop u v = sum-prop (Prim.hlevel props) (Prim.hlevel props) (λ less same. omega (arith, same.0))
+Follows-prop u v = either-prop (Prim.hlevel props) (Prim.hlevel props) (λ less same. omega (arith, same.0))
 
 -- records are arranged in one way at most, so that a type may say it of the records that it holds
 pub Arranged-prop : (ws : List Window) → IsProp (Arranged ws)

@@ -16,8 +16,7 @@ use limits::CHANNELS;
 /// The windows of a round while its slots are filled, and which readings wait. Of each channel at
 /// most one reading is ready, its next one: the ends of its window are nowhere before those of the
 /// channel's later readings, so none of these is due before it.
-// The heap of the ready readings stands beside it: in it, what is left in the lent windows could
-// not be proved.
+// The heap stands beside it: a round that holds the heap too did not prove (docs/DECISIONS.md).
 #[derive(Drop)]
 pub(crate) struct Round<'a> {
     // The windows, with the slots that are given so far.

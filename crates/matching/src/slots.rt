@@ -6,7 +6,7 @@ ghost use Rattle.matching.specs.Windows.{blank, window, with_slot};
 
 use crate::window::Window;
 
-// Takes the slot of every reading away: 0 is no slot.
+// Takes the slot of every reading away: 0, before the first slot, is none while slots are given.
 pub(crate) fn clear_slots(windows: &mut [Window])
     ensures { windows.new ≡ blank windows.old }
 {
@@ -24,6 +24,7 @@ pub(crate) fn set_slot(windows: &mut [Window], place: u16, slot: u16)
 }
 
 // The last slot up to `latest` whose reading could also stand after `latest`, 0 where there is none.
+// A number: the slot after it is where a crowd begins, slot 1 where there is none.
 pub(crate) fn last_movable(windows: &[Window], latest: u16) -> u16
     ensures { LastMovable windows.now latest result }
 {

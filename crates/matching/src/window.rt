@@ -12,5 +12,6 @@ pub struct Window {
     /// The last slot that it may stand in.
     pub latest: u16,
     /// The slot that it stands in; only the matching writes it.
+    // No `Option`: each reading has a slot where the matching finds one, and else the field is free.
     pub slot: u16,
 }

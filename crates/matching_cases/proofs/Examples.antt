@@ -22,6 +22,7 @@ three_follow (suc (suc i)) h = absurd (omega arith)
 two_two_crowded : IsCrowded slot_two 2 2 3
 two_two_crowded = record { from = omega arith; upward = omega arith; to = omega arith; counted = refl; over = omega arith }
 
+-- the facts of three readings in one slot
 pub one_slot_for_three_lem : OneSlotForThree
 one_slot_for_three_lem = record {
   arranged = record { few = omega arith; usable = three_usable; follows = three_follow };
@@ -65,6 +66,7 @@ two_soonest (suc zero) (suc zero) h k before opens = absurd (omega arith)
 two_soonest (suc zero) (suc (suc j)) h k before opens = absurd (omega arith)
 two_soonest (suc (suc i)) j h k before opens = absurd (omega arith)
 
+-- the facts of two channels in two slots
 pub two_channels_lem : TwoChannels
 two_channels_lem = record {
   placed = record {

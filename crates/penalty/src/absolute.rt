@@ -24,6 +24,7 @@ impl Penalty for AbsoluteDeviation {
     ghost valley = { λ p. bottom_valley size (λ S c d x k. Prim.search rules) size_valley };
 
     fn cost(&self, question: Question) -> u64 {
+        // The same guard in each bottom: a function that takes the rest as a closure would be no shorter.
         if !question.in_domain() {
             return TOP;
         }
@@ -31,7 +32,7 @@ impl Penalty for AbsoluteDeviation {
         u64::from(q.ahead) + u64::from(q.behind)
     }
 
-    // No default in the trait: a layer that left out its own depth would have this one.
+    // No default in the trait: `0 ≡ depth self.now` does not prove there, since an impl may say another depth.
     fn depth(&self) -> u8 {
         0
     }

@@ -22,6 +22,7 @@ impl Layer for Band {
 
     ghost valley = { λ l f _. map_valley (λ _. relax_map l.tolerance) };
 
+    // As for weights, TOP stays: a layer of any map of costs would only wrap the same lines once more.
     fn cost_over<P: Penalty>(&self, below: &P, question: Question) -> u64 {
         let cost = below.cost(question);
         if cost >= TOP {

@@ -6,11 +6,11 @@ ghost use Rattle.penalty.specs.Settings.{number};
 #[derive(Clone, Copy, PartialEq, Eq, Debug)]
 pub enum SettingRefusal {
     /// The channel is above 63.
-    ChannelAboveLimit,
+    ChannelAboveLimit = 1,
     /// The weight is above 1,000.
-    WeightAboveLimit,
+    WeightAboveLimit = 9,
     /// The tolerance or the limit is above 16,777,216.
-    ThresholdAboveLimit,
+    ThresholdAboveLimit = 10,
 }
 
 impl SettingRefusal {
@@ -19,10 +19,6 @@ impl SettingRefusal {
     pub fn number(self) -> u8
         ensures { result ≡ number self }
     {
-        match self {
-            SettingRefusal::ChannelAboveLimit => 1,
-            SettingRefusal::WeightAboveLimit => 9,
-            SettingRefusal::ThresholdAboveLimit => 10,
-        }
+        self as u8
     }
 }

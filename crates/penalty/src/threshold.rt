@@ -42,7 +42,7 @@ impl TryFrom<u32> for Threshold {
 
 impl Threshold {
     /// The number itself.
-    // No `From`: `u64::from(u32::from(t))` is no plainer than `u64::from(t.value())`.
+    // No `From`: `u32::from(threshold)` would be no plainer than `threshold.value()`.
     pub fn value(self) -> u32
         ensures value { result ≡ self }
         ensures within { result ≤ 16777216 }

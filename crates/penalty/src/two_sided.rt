@@ -25,6 +25,7 @@ impl Penalty for TwoSided {
     ghost valley = { λ _. two_sided_valley };
 
     fn cost(&self, question: Question) -> u64 {
+        // The same guard in each bottom: a function that takes the rest as a closure would be no shorter.
         if !question.in_domain() {
             return TOP;
         }
@@ -35,7 +36,7 @@ impl Penalty for TwoSided {
         u64::from(roots()[usize::from(step(q.ahead, question.slots))])
     }
 
-    // No default in the trait: a layer that left out its own depth would have this one.
+    // No default in the trait: `0 ≡ depth self.now` does not prove there, since an impl may say another depth.
     fn depth(&self) -> u8 {
         0
     }

@@ -51,12 +51,15 @@ impl Weights {
         Ok(())
     }
 
-    // The weight of a channel.
+    // The weight of a channel, 0 for what is no channel number.
     pub(crate) fn of(&self, channel: u8) -> u16
-        requires { channel ≤ 63 }
-        ensures { (result ≡ slice_index self.now.by_channel channel) × (result ≤ 1000) }
+        ensures weight { result ≡ slice_index self.now.by_channel channel }
+        ensures within { result ≤ 1000 }
     {
-        self.by_channel[usize::from(channel)]
+        self.by_channel
+            .get(usize::from(channel))
+            .copied()
+            .unwrap_or(0)
     }
 }
 
@@ -69,6 +72,7 @@ impl Layer for Weights {
 
     ghost valley = { λ l f _. map_valley (weight_maps l.by_channel) };
 
+    // As for a band, TOP stays: a layer of any map of costs would only wrap the same lines once more.
     fn cost_over<P: Penalty>(&self, below: &P, question: Question) -> u64 {
         let cost = below.cost(question);
         if cost >= TOP {

@@ -52,7 +52,7 @@ struct Query {
     question: Question,
 }
 
-// The question at the front of the bytes, and the bytes after it.
+// The question at the front of the bytes, and the bytes after it; no `Case`, since both are of other crates.
 fn next_question(bytes: &[u8]) -> Option<(Question, &[u8])>
     ensures { IfSome result (λ parts. length parts.1.now < length bytes.now) }
 {

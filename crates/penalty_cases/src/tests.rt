@@ -59,7 +59,7 @@ fn costs<P: Penalty>(penalty: &P, channel: u8) -> [u64; 6] {
     ))
 }
 
-// A band of this tolerance.
+// A band of this tolerance; a stop has a function of its own, since each setting has its name.
 fn band(tolerance: u32) -> Result<Band, SettingRefusal> {
     Ok(Band {
         tolerance: Threshold::try_from(tolerance)?,

@@ -14,6 +14,7 @@ pub(crate) fn row_of(input: &[u8]) -> ArrayVec<u16, CHANNELS>
 {
     let (pairs, _) = input.as_chunks::<2>();
     let mut row = ArrayVec::new();
+    // A `for`: `collect` into an `ArrayVec` answers a `Result`, and there is always room.
     for &pair in pairs.iter().take(CHANNELS) {
         row.push(u16::from_be_bytes(pair));
     }

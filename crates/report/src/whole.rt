@@ -19,6 +19,7 @@ pub fn report<P: Penalty>(penalty: &P, input: &[u8], memory: &mut [u8; LINE_BYTE
 }
 
 /// The same under the absolute deviation.
+// Memory and a length, as above.
 pub fn report_absolute(input: &[u8], memory: &mut [u8; LINE_BYTES]) -> usize
     ensures { Reported absolute input.now memory.old memory.new result }
 {

@@ -31,6 +31,7 @@ fn largest_cost<'a, P: Penalty>(penalty: &'a P, readings: &'a Readings, list: &[
         counts: [0; CHANNELS],
     };
     let mut found = walk.scan(0, None);
+    // A `for` with the place: the counts and the largest cost so far go on together.
     for (i, &channel) in list.iter().enumerate() {
         count_slot(&mut walk.counts, channel);
         found = walk.scan(slot_at(i), found);
@@ -52,7 +53,7 @@ impl<'a, P: Penalty> Walk<'a, P> {
         ensures { Scanned (P.cost self.now.penalty.now) self.now.readings.now.by_channel self.now.counts slot before result }
     {
         let mut found = before;
-        // By number, since the readings, the count and the cost of each are asked for by it.
+        // By number, since three things are asked for by it; a `fold` would pass on the same two values.
         for channel in 0..CHANNELS as u8 {
             if self.readings.of(channel) > 0 {
                 let cost = self.cost_after(slot, channel);
@@ -87,8 +88,7 @@ impl<'a, P: Penalty> Walk<'a, P> {
 fn larger(before: Option<Largest>, next: Largest) -> Largest
     ensures { result ≡ larger_of before next }
 {
-    match before {
-        Some(found) if found.cost >= next.cost => found,
-        _ => next,
-    }
+    before
+        .filter(|found| found.cost >= next.cost)
+        .unwrap_or(next)
 }
