@@ -1,7 +1,7 @@
 #!/usr/bin/env python3
 """Writes the cases of this crate: `stdin`, and the lines that they must give, `stdout`.
 
-The answers come from the rules as docs/RULES.md states them. Whether an assignment exists is found by
+The answers come from the rules of placing. Whether an assignment exists is found by
 going through all of them for small sets, and by counting the windows inside every interval for larger
 ones; the slots of a placement are found slot by slot over all windows, with no heap. Nothing here is
 shared with the Rattle code. A case has the number of ready places (1 byte), the number of windows (2), and
@@ -148,7 +148,7 @@ def main():
         for c, j, e, l in windows:
             stdin += bytes([c]) + b"".join(x.to_bytes(2, "big") for x in (j, e, l))
         lines.append(answer(ready, windows))
-    # worked by hand in docs/RULES.md
+    # worked by hand
     assert lines[:2] == ["CROWDED", "PLACED 1 2"]
     (here / "stdin").write_bytes(stdin)
     (here / "stdout").write_text("".join(line + "\n" for line in lines))

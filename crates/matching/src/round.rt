@@ -171,6 +171,7 @@ fn first_places(windows: &[Window]) -> [Option<u16>; CHANNELS]
     requires { Arranged (blank windows.now) }
     ensures { Starts (blank windows.now) result }
 {
+    // `Some` for a channel without readings too, since `None` is ready: the place is then seen to be another's.
     let mut waiting = [Some(0); CHANNELS];
     for (place, window) in windows.iter().enumerate().rev() {
         waiting[usize::from(window.channel)] = Some(place as u16);

@@ -1,4 +1,4 @@
--- The worked examples of docs/RULES.md, stated by the definitions of the matching.
+-- Worked matchings, stated by the definitions of the matching.
 use Rattle.std.specs.Prelude.{ℕ, List, [], ◌∷◌}
 use Rattle.matching.specs.Matchings.{Assignment, IsCrowded, Placement}
 use Rattle.matching.specs.Windows.{Arranged}

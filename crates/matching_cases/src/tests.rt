@@ -1,4 +1,4 @@
-// The worked matchings of docs/RULES.md, refusals, what is left in lent memory, and the heap on its own.
+// Worked matchings, refusals, what is left in lent memory, and the heap on its own.
 ghost use Rattle.std.specs.Prelude.{nat_le};
 ghost use Rattle.std.proofs.Common.{rules};
 ghost use Rattle.std.specs.Cmp.Rules.{comparing};

@@ -1,4 +1,4 @@
-// The worked examples of docs/RULES.md as facts about the definitions that the matching's contract cites.
+// Worked matchings as facts about the definitions that the matching's contract cites.
 ghost use Rattle.matching_cases.specs.Worked.{OneSlotForThree, TwoChannels};
 
 /// Three windows that are slot 2 alone: which intervals are crowded.

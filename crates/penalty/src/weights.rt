@@ -52,6 +52,7 @@ impl Weights {
     }
 
     // The weight of a channel, 0 for what is no channel number.
+    // The look-up of `Readings` too: a table for both would have to be taken apart in each clause.
     pub(crate) fn of(&self, channel: u8) -> u16
         ensures weight { result ≡ slice_index self.now.by_channel channel }
         ensures within { result ≤ 1000 }

@@ -52,6 +52,7 @@ impl Readings {
     }
 
     /// The readings of a channel, 0 where it is not in the table.
+    // The look-up of `Weights` too: a table for both would have to be taken apart in each clause.
     pub fn of(&self, channel: u8) -> u16
         ensures { result ≡ readings self.now.by_channel channel }
     {
