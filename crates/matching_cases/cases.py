@@ -1,7 +1,7 @@
 #!/usr/bin/env python3
 """Writes the cases of this crate: `stdin`, and the lines that they must give, `stdout`.
 
-The answers come from the rules of placing. Whether an assignment exists is found by
+The answers come from the rules as docs/RULES.md states them. Whether an assignment exists is found by
 going through all of them for small sets, and by counting the windows inside every interval for larger
 ones; the slots of a placement are found slot by slot over all windows, with no heap. Nothing here is
 shared with the Rattle code. A case has the number of ready places (1 byte), the number of windows (2), and

@@ -9,3 +9,4 @@ pub mod Orders
 pub mod Progress
 pub mod Queueing
 pub mod Steps
+pub mod Unique

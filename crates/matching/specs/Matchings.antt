@@ -1,6 +1,6 @@
 -- What the matching answers: a placement of all readings, or why there is none.
 use Rattle.std.specs.Prelude.{◌≡◌, ℕ, ◌+◌, ◌-◌, ◌<◌, ◌≤◌, Bool, ◌&&◌, ◌⊎◌, List, length, count_by, nat_le}
-use Rattle.matching.specs.Windows.{Arranged, window}
+use Rattle.matching.specs.Windows.{Arranged, blank, window}
 use Rattle.matching.specs.declared.answer.Crowd.{Crowd}
 use Rattle.matching.specs.declared.answer.Unplaced.{Unplaced}
 use Rattle.matching.specs.declared.answer.Unplaced.TheVariants.{ReadyPlaces, Windows, Crowded}
@@ -22,6 +22,10 @@ pub record Placement (ws : List Window) : Type 0 where
   pub assigned : Assignment ws (λ i. (window ws i).slot)
   pub filled : (s : ℕ) → 1 ≤ s → s ≤ length ws → (i : ℕ) × (i < length ws) × ((window ws i).slot ≡ s)
   pub soonest : (i j : ℕ) → i < length ws → j < length ws → (window ws i).slot < (window ws j).slot → (window ws j).earliest ≤ (window ws i).slot → Due ws i j
+
+-- other slots of the same windows are no placement
+abbrev pub OnlyPlacement : List Window → Type 0
+OnlyPlacement ws = (ws' : List Window) → blank ws' ≡ blank ws → Placement ws' → ws' ≡ ws
 
 -- whether a window lies wholly inside the slots a to b
 abbrev pub within : ℕ → ℕ → Window → Bool

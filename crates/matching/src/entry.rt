@@ -1,6 +1,6 @@
 // The call that matches windows to slots.
 ghost use Rattle.std.specs.Prelude.{◌≡◌, ◌≤◌, length, drop, OnOk, IfErr};
-ghost use Rattle.matching.specs.Matchings.{Placement, IsReason};
+ghost use Rattle.matching.specs.Matchings.{Placement, OnlyPlacement, IsReason};
 ghost use Rattle.matching.specs.Windows.{Arranged, blank};
 
 use crate::answer::Unplaced;
@@ -17,7 +17,7 @@ use limits::CHANNELS;
 pub fn place(windows: &mut [Window], ready: &mut [Ready]) -> Result<(), Unplaced>
     ensures windows { blank windows.new ≡ blank windows.old }
     ensures ready { drop 64 ready.new ≡ drop 64 ready.old }
-    ensures placed { OnOk result ((64 ≤ length ready.old) × Arranged windows.old × Placement windows.new) }
+    ensures placed { OnOk result ((64 ≤ length ready.old) × Arranged windows.old × Placement windows.new × OnlyPlacement windows.new) }
     ensures unplaced { IfErr result (IsReason windows.old ready.old windows.new ready.new) }
 {
     if ready.len() < CHANNELS {

@@ -1,7 +1,7 @@
 -- Before the first slot, where slots are crowded, and after the last slot.
 use Rattle.std.proofs.Common.{◌≡◌, List, length, take, Result, Ok, Err, sym, refl, ap, ◌∙◌, subst, arith, rules}
 use Rattle.std.specs.Result.{IfErr, IsErrAnd}
-use Rattle.matching.specs.Matchings.{Placement}
+use Rattle.matching.specs.Matchings.{OnlyPlacement, Placement}
 use Rattle.matching.specs.Queues.{Starts}
 use Rattle.matching.specs.Windows.{blank}
 use Rattle.matching.specs.declared.answer.Crowd.{Crowd}
@@ -12,14 +12,16 @@ use Rattle.matching.proofs.Blanks.{blank-blank, length_same, length-blank, windo
 use Rattle.matching.proofs.Crowds.{crowd_rules_out}
 use Rattle.matching.proofs.Ends.{crowd_same, placement, state_begins}
 use Rattle.matching.proofs.Queueing.{queue_begins}
+use Rattle.matching.proofs.Unique.{only_placement}
 use Rattle.matching.proofs.entry.place.Goals as goal
 
 -- the records at the end are those of the round
 blank_at : (last ws start : List Window) → last ≡ ws → blank ws ≡ start → blank last ≡ start
 blank_at last ws start same is = ap blank same ∙ is
 
-placed_at : (last ws : List Window) → last ≡ ws → Placement ws → Placement last
-placed_at last ws same placed = subst Placement (sym same) placed
+-- and what is so of those is so of the records at the end
+at_end : (P : List Window → Type 0) (last ws : List Window) → last ≡ ws → P ws → P last
+at_end P last ws same holds = subst P (sym same) holds
 
 -- the reason is the crowd
 reason_at : (r : Result (Unit {0}) Unplaced) (crowd : Crowd) (P : Unplaced → Type 0) → IsErrAnd r (λ why. why ≡ Crowded crowd) → P (Crowded crowd) → IfErr r P
@@ -68,9 +70,11 @@ returns-clause-windows c =
 pub returns-clause-placed : goal.returns-clause-placed
 returns-clause-placed c =
     let l = c.loop-filled in
-    let long = length_same l.round.windows.now (blank c.new-round.result.windows.now) l.invariant.1.windows in (
+    let ws = l.round.windows.now in
+    let long = length_same ws (blank c.new-round.result.windows.now) l.invariant.1.windows in
+    let placed = placement (blank ws) ws l.filled (omega (arith, long, length-blank ws, length-blank c.new-round.result.windows.now)) l.invariant.0.slots in (
       omega arith,
       search rules,
-      placed_at _ l.round.windows.now (search rules)
-          (placement (blank l.round.windows.now) l.round.windows.now l.filled (omega (arith, long, length-blank l.round.windows.now, length-blank c.new-round.result.windows.now)) l.invariant.0.slots),
+      at_end Placement _ ws (search rules) placed,
+      at_end OnlyPlacement _ ws (search rules) (only_placement ws l.round.arranged placed),
     )
