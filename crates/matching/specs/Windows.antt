@@ -1,6 +1,5 @@
 -- Windows as the matching sees them: a list of records, one for each reading, in as many slots as there are records.
-use Rattle.std.specs.Prelude.{◌≡◌, ℕ, ◌+◌, ◌<◌, ◌≤◌, ◌⊎◌, Bool, ◌&&◌, ◌||◌, ◌==◌, nat_le, nat_lt, List, map, length, slice_index_or}
-use Rattle.std.proofs.Common.{ap, inl, inr, arith}
+use Rattle.std.specs.Prelude.{ℕ, ◌+◌, ◌<◌, ◌≤◌, Bool, IsTrue, ◌&&◌, ◌||◌, ◌==◌, nat_le, nat_lt, List, map, length, slice_index_or}
 use Rattle.std.proofs.Props.{props}
 use Rattle.matching.specs.declared.window.Window.{Window}
 
@@ -27,13 +26,7 @@ pub record Usable (n : ℕ) (w : Window) : Type 0 where
   pub opens : w.earliest ≤ w.latest
   pub last : w.latest ≤ n
 
--- v may stand right after u: a greater channel, or the same channel, a greater reading, and neither end falls
-abbrev pub Follows : Window → Window → Type 0
-Follows u v =
-    (u.channel < v.channel)
-    ⊎ ((u.channel ≡ v.channel) × (u.reading < v.reading) × (u.earliest ≤ v.earliest) × (u.latest ≤ v.latest))
-
--- whether v may stand right after u
+-- whether v may stand right after u: a greater channel, or the same channel, a greater reading, and neither end falls
 abbrev pub may_follow : Window → Window → Bool
 may_follow u v =
     nat_lt u.channel v.channel
@@ -43,19 +36,8 @@ may_follow u v =
 pub record Arranged (ws : List Window) : Type 0 where
   pub few : length ws ≤ 4096
   pub usable : (i : ℕ) → i < length ws → Usable (length ws) (window ws i)
-  pub follows : (i : ℕ) → i + 1 < length ws → Follows (window ws i) (window ws (i + 1))
-
--- two facts that exclude each other hold in one way at most where each does
-either-prop : {A B : Type 0} → IsProp A → IsProp B → (A → B → ⊥) → IsProp (A ⊎ B)
-either-prop a b both (inl x) (inl y) = ap inl (a x y)
-either-prop a b both (inr x) (inr y) = ap inr (b x y)
-either-prop a b both (inl x) (inr y) = absurd (both x y)
-either-prop a b both (inr x) (inl y) = absurd (both y x)
-
--- a record may stand after another in one way at most
-Follows-prop : (u v : Window) → IsProp (Follows u v)
-Follows-prop u v = either-prop (Prim.hlevel props) (Prim.hlevel props) (λ less same. omega (arith, same.0))
+  pub follows : (i : ℕ) → i + 1 < length ws → IsTrue (may_follow (window ws i) (window ws (i + 1)))
 
 -- records are arranged in one way at most, so that a type may say it of the records that it holds
 pub Arranged-prop : (ws : List Window) → IsProp (Arranged ws)
-Arranged-prop ws = Prim.hlevel (props, Follows-prop)
+Arranged-prop ws = Prim.hlevel props

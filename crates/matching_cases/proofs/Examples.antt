@@ -1,7 +1,7 @@
 -- The worked examples, place by place.
-use Rattle.std.proofs.Common.{◌≡◌, ℕ, zero, suc, ◌+◌, ◌<◌, ◌≤◌, refl, inl, inr, ⊎_elim, arith}
+use Rattle.std.proofs.Common.{◌≡◌, ℕ, zero, suc, ◌+◌, ◌<◌, ◌≤◌, IsTrue, refl, inr, ⊎_elim, arith}
 use Rattle.matching.specs.Matchings.{IsCrowded, Due}
-use Rattle.matching.specs.Windows.{Follows, Usable, window}
+use Rattle.matching.specs.Windows.{Usable, may_follow, window}
 use Rattle.matching.proofs.Crowds.{crowd_rules_out}
 use Rattle.matching_cases.specs.Worked.{OneSlotForThree, TwoChannels, placed_in, slot_two}
 
@@ -13,9 +13,9 @@ three_usable (suc (suc zero)) h = record { channel = omega arith; first = omega 
 three_usable (suc (suc (suc i))) h = absurd (omega arith)
 
 -- each is of a greater channel than the one before it
-three_follow : (i : ℕ) → i + 1 < 3 → Follows (window slot_two i) (window slot_two (i + 1))
-three_follow zero h = inl (omega arith)
-three_follow (suc zero) h = inl (omega arith)
+three_follow : (i : ℕ) → i + 1 < 3 → IsTrue (may_follow (window slot_two i) (window slot_two (i + 1)))
+three_follow zero h = refl
+three_follow (suc zero) h = refl
 three_follow (suc (suc i)) h = absurd (omega arith)
 
 -- slot 2 alone is crowded
