@@ -1,5 +1,5 @@
 -- How one element comes to its place in a heap: over the elements by place, f before an exchange and g after it.
-use Rattle.std.proofs.Common.{◌≡◌, ℕ, zero, suc, ◌+◌, ◌-◌, ◌*◌, ◌/◌, ◌<◌, ◌≤◌, Bool, true, false, List, [], ◌∷◌, get_or, take, slice_get, Option, None, Some, sym, refl, ap, ◌∙◌, subst, ⊎_elim, arith}
+use Rattle.std.proofs.Common.{◌≡◌, ℕ, zero, suc, ◌+◌, ◌-◌, ◌*◌, ◌/◌, ◌<◌, ◌≤◌, Bool, true, false, List, [], ◌∷◌, get_or, take, slice_get, Option, IfSome, sym, refl, ap, ◌∙◌, subst, ⊎_elim, arith}
 use Rattle.std.proofs.lemmas.List.Edits.{Swapped}
 use Rattle.std.proofs.ByRecursion.{All-from_get_or}
 use Rattle.std.proofs.lemmas.List.{get_or-take, length-take-le}
@@ -154,10 +154,9 @@ module _ {X : Type 0} (leq : X → X → Bool) where
           by is (get_or-take n xs i x (omega arith)) (front_leq xs n x sound.heaped i i (omega arith) (omega arith)));
     }
 
-    -- the first of the elements that are kept, or nothing where none is
-    pub front_or_none : (xs : List X) (n : ℕ) (o : Option X) → Sound leq xs n → o ≡ slice_get (take n xs) 0 → elim o as (λ _. Type 0) [ None ↦ n ≡ 0 | Some x ↦ First leq x xs n ]
-    front_or_none xs zero o sound is = subst (λ (r : Option X). elim r as (λ _. Type 0) [ None ↦ zero ≡ 0 | Some x ↦ First leq x xs zero ]) (sym is) refl
-    front_or_none [] (suc n) o sound is = let room = sound.room in absurd (omega arith)
-    front_or_none (x ∷ xs) (suc n) o sound is =
-        subst (λ (r : Option X). elim r as (λ _. Type 0) [ None ↦ suc n ≡ 0 | Some y ↦ First leq y (x ∷ xs) (suc n) ]) (sym is)
-        (first_of (x ∷ xs) (suc n) x (omega arith) sound refl)
+    -- the first of the elements that are kept, where one is
+    pub front_first : (xs : List X) (n : ℕ) (o : Option X) → Sound leq xs n → o ≡ slice_get (take n xs) 0 → IfSome o (λ x. First leq x xs n)
+    front_first xs zero o sound is = subst (λ (r : Option X). IfSome r (λ x. First leq x xs zero)) (sym is) tt
+    front_first [] (suc n) o sound is = let room = sound.room in absurd (omega arith)
+    front_first (x ∷ xs) (suc n) o sound is =
+        subst (λ (r : Option X). IfSome r (λ y. First leq y (x ∷ xs) (suc n))) (sym is) (first_of (x ∷ xs) (suc n) x (omega arith) sound refl)

@@ -33,6 +33,10 @@ pub record Rearranged {X : Type 0} (n : ℕ) (xs ys : List X) : Type 0 where
   pub same : IsPermutation (take n xs) (take n ys)
   pub rest : drop n ys ≡ drop n xs
 
+-- the heap keeps what it kept, and the memory is as it was
+abbrev pub Unchanged : {X : Type 0} → List X → ℕ → List X → ℕ → Type 0
+Unchanged xs n ys m = (m ≡ n) × (ys ≡ xs)
+
 -- x stands in front and may come out before every element that is kept
 pub record First {X : Type 0} (leq : X → X → Bool) (x : X) (xs : List X) (n : ℕ) : Type 0 where
   pub some : 0 < n

@@ -1,6 +1,6 @@
 // The heap over lent memory.
-ghost use Rattle.std.specs.Prelude.{◌≡◌, length, Some, None, Ok, Err};
-ghost use Rattle.heap.specs.Heaps.{Sound, First, Pushed, Popped};
+ghost use Rattle.std.specs.Prelude.{◌≡◌, length, IfNone, IfSome, OnErr, OnOk};
+ghost use Rattle.heap.specs.Heaps.{Sound, First, Pushed, Popped, Unchanged};
 
 use crate::order::Ordered;
 use crate::sift::{sift_up, take_front};
@@ -10,7 +10,8 @@ use crate::sift::{sift_up, take_front};
 pub struct Full;
 
 /// A heap that keeps its elements in the first places of the memory that it was lent.
-// The memory and a length, and no `Vec`: a heap allocates nothing, and its memory is the caller's.
+// The memory and a length, and no `Vec`: a heap allocates nothing, and its memory is the caller's. The clauses `named`
+// below say that it stands in that memory still, so that a caller knows afterwards what this holds.
 #[derive(Debug, Drop)]
 pub struct Heap<'a, T: Ordered> {
     items: &'a mut [T],
@@ -34,10 +35,8 @@ impl<'a, T: Ordered> Heap<'a, T> {
     /// Keeps one element more, or refuses it where no place is left.
     pub fn push(&mut self, x: T) -> Result<(), Full>
         ensures named { self.new.items.ghost_name ≡ self.old.items.ghost_name }
-        ensures outcome { elim result [
-          | Ok _ ↦ Pushed x self.old.items.now self.old.len self.new.items.now self.new.len
-          | Err _ ↦ (self.old.len ≡ length self.old.items.now) × (self.new.len ≡ self.old.len) × (self.new.items.now ≡ self.old.items.now)
-        ] }
+        ensures pushed { OnOk result (Pushed x self.old.items.now self.old.len self.new.items.now self.new.len) }
+        ensures full { OnErr result ((self.old.len ≡ length self.old.items.now) × Unchanged self.old.items.now self.old.len self.new.items.now self.new.len) }
     {
         let at = self.len;
         if at == self.items.len() {
@@ -52,10 +51,8 @@ impl<'a, T: Ordered> Heap<'a, T> {
     /// Takes out the element that `first` shows; nothing where none is kept.
     pub fn pop(&mut self) -> Option<T>
         ensures named { self.new.items.ghost_name ≡ self.old.items.ghost_name }
-        ensures outcome { elim result [
-          | None ↦ (self.old.len ≡ 0) × (self.new.len ≡ 0) × (self.new.items.now ≡ self.old.items.now)
-          | Some x ↦ Popped T.leq x self.old.items.now self.old.len self.new.items.now self.new.len
-        ] }
+        ensures popped { IfSome result (λ x. Popped T.leq x self.old.items.now self.old.len self.new.items.now self.new.len) }
+        ensures none { IfNone result ((self.old.len ≡ 0) × Unchanged self.old.items.now self.old.len self.new.items.now self.new.len) }
     {
         let last = self.len.checked_sub(1)?;
         self.len = last;
@@ -64,10 +61,8 @@ impl<'a, T: Ordered> Heap<'a, T> {
 
     /// An element that may come out before every other; nothing where none is kept.
     pub fn first(&self) -> Option<T>
-        ensures { elim result [
-          | None ↦ self.now.len ≡ 0
-          | Some x ↦ First T.leq x self.now.items.now self.now.len
-        ] }
+        ensures first { IfSome result (λ x. First T.leq x self.now.items.now self.now.len) }
+        ensures none { IfNone result (self.now.len ≡ 0) }
     {
         self.items[..self.len].first().copied()
     }

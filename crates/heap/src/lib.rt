@@ -1,4 +1,4 @@
-// One binary heap over memory that the caller lends, for every kind of element with a total order.
+// One binary heap over memory that the caller lends, for every kind of `Copy` element with a total and transitive order.
 #![tactic(auto)]
 
 mod lent;

@@ -1,7 +1,8 @@
 -- Placing readings slot after slot by Glover's rule, over plain functions.
 use Rattle.std.proofs.Common.{◌≡◌, ℕ, ◌+◌, ◌-◌, ◌<◌, ◌≤◌, ◌⊎◌, ap, ◌∙◌, inl, inr, ⊎_elim, arith}
 use Rattle.std.proofs.lemmas.Bool.{cases_eq, cases_lt}
-use Rattle.matching.specs.States.{Progress, Sooner}
+use Rattle.matching.specs.Matchings.{Due}
+use Rattle.matching.specs.States.{Progress}
 
 -- before the first slot no reading is placed
 pub progress_none : (n : ℕ) (e l s : ℕ → ℕ) → ((i : ℕ) → i < n → s i ≡ 0) → Progress n e l s 0
@@ -15,7 +16,7 @@ progress_none n e l s none = record {
 -- one slot more, which reading i takes
 module _ (n : ℕ) (e l s r : ℕ → ℕ) (t i : ℕ) (p : Progress n e l s t) (h : i < n) (unplaced : s i ≡ 0)
     (come : e i ≤ t + 1) (still : t + 1 ≤ l i)
-    (first : (j : ℕ) → j < n → s j ≡ 0 → (j ≡ i → ⊥) → e j ≤ t + 1 → Sooner l i j)
+    (first : (j : ℕ) → j < n → s j ≡ 0 → (j ≡ i → ⊥) → e j ≤ t + 1 → Due l i j)
     (now : r i ≡ t + 1) (kept : (k : ℕ) → (k ≡ i → ⊥) → r k ≡ s k) where
   -- a reading is i, in slot t + 1, or another, whose slot is as it was and is up to t
   split : (j : ℕ) → j < n → ((j ≡ i) × (r j ≡ t + 1)) ⊎ ((j ≡ i → ⊥) × (r j ≡ s j) × (s j ≤ t))

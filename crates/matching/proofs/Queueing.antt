@@ -11,7 +11,7 @@ use Rattle.std.proofs.lemmas.Bool.Decides.{nat_tests}
 use Rattle.heap.specs.Heaps.{Popped, Pushed, Sound}
 use Rattle.heap.proofs.Kept.{popped_all, popped_sum, pushed_all, pushed_sum}
 use Rattle.matching.specs.Queues.{AdmittedAt, Comes, Coming, IsReading, NextUpTo, Queued, Starts, TakenOut, channel_at, is_ready, next_of, of_channel, ready_place}
-use Rattle.matching.specs.Ready.{due}
+use Rattle.matching.specs.Ready.{may_precede}
 use Rattle.matching.specs.Windows.{window}
 use Rattle.matching.specs.declared.ready.Ready.{Ready}
 use Rattle.matching.specs.declared.window.Window.{Window}
@@ -24,7 +24,7 @@ drop_later {X} xs ys m n le same =
     sym (further ys) ∙ ap (drop (n - m)) same ∙ further xs
 
 -- what the order of the ready readings says of two of them
-due_parts : (x y : Ready) → due x y ≡ true → (x.latest < y.latest) ⊎ ((x.latest ≡ y.latest) × (x.place ≤ y.place))
+due_parts : (x y : Ready) → may_precede x y ≡ true → (x.latest < y.latest) ⊎ ((x.latest ≡ y.latest) × (x.place ≤ y.place))
 due_parts x y h = grind (arith, nat_tests)
 
 -- the place that was read where the next reading of channel c waits is that of its next reading
@@ -35,7 +35,7 @@ waits_at waiting c k p same below waits = get_or_default waiting c (Some 0) None
 pub waits_next : (bs : List Window) (waiting : List (Option ℕ)) (kept : List Ready) (c p : ℕ) → get_or waiting c (Some 0) ≡ Some p → next_of bs waiting kept c ≡ p
 waits_next bs waiting kept c p waits = ap (λ o. unwrap_or o (ready_place bs kept c)) waits
 
-module _ (bs : List Window) (waiting : List (Option ℕ)) (items : List Ready) (len : ℕ) (sound : Sound due items len) (q : Queued bs waiting items len) where
+module _ (bs : List Window) (waiting : List (Option ℕ)) (items : List Ready) (len : ℕ) (sound : Sound may_precede items len) (q : Queued bs waiting items len) where
   -- there are len ready readings
   kept_long : length (take len items) ≡ len
   kept_long = length-take-le len items sound.room
@@ -133,14 +133,14 @@ module _ (bs : List Window) (waiting : List (Option ℕ)) (items : List Ready) (
         others = ready_other;
       }
 
-  module _ (r : Ready) (items' : List Ready) (len' : ℕ) (pop : Popped due r items len items' len') where
+  module _ (r : Ready) (items' : List Ready) (len' : ℕ) (pop : Popped may_precede r items len items' len') where
     -- what is taken out is a reading of the round
     pub popped_reading : IsReading bs r
-    popped_reading = (popped_all r items len items' len' due pop (IsReading bs) q.readings).0
+    popped_reading = (popped_all r items len items' len' may_precede pop (IsReading bs) q.readings).0
 
     -- what is counted of a channel before and after
     popped_count : (c : ℕ) → cond (of_channel bs c r) 1 0 + count_by (of_channel bs c) (take len' items') ≡ cond (is_ready waiting c) 1 0
-    popped_count c = popped_sum r items len items' len' due pop (λ s. cond (of_channel bs c s) 1 0) ∙ q.once c
+    popped_count c = popped_sum r items len items' len' may_precede pop (λ s. cond (of_channel bs c s) 1 0) ∙ q.once c
 
     -- none of its channel waits, and no other of it is ready
     popped_alone : (is_ready waiting (channel_at bs r.place) ≡ true) × (count_by (of_channel bs (channel_at bs r.place)) (take len' items') ≡ 0)
@@ -162,7 +162,7 @@ module _ (bs : List Window) (waiting : List (Option ℕ)) (items : List Ready) (
         let c = channel_at bs r.place in
         let here = eq-eqb c c refl in
         let none = sum_none (of_channel bs c) (λ s. s.place) (take len' items') popped_alone.1 in
-        let sum = popped_sum r items len items' len' due pop (λ s. cond (of_channel bs c s) s.place 0) in
+        let sum = popped_sum r items len items' len' may_precede pop (λ s. cond (of_channel bs c s) s.place 0) in
         next_ready c popped_alone.0 ∙ grind arith
 
     -- no ready reading is due before it
@@ -173,7 +173,7 @@ module _ (bs : List Window) (waiting : List (Option ℕ)) (items : List Ready) (
         let some = count_some (of_channel bs c) (take len items) r (grind arith) in
         let s = get_or (take len items) some.0 r in
         let is = All-get_or (IsReading bs) (take len items) some.0 r some.1 q.readings in
-        let first = due_parts r s (All-get_or (λ y. due r y ≡ true) (take len items) some.0 r some.1 pop.first.before) in
+        let first = due_parts r s (All-get_or (λ y. may_precede r y ≡ true) (take len items) some.0 r some.1 pop.first.before) in
         let place : next_of bs waiting (take len items) c ≡ s.place =
         next_ready c mark ∙ sum_one (of_channel bs c) (λ x. x.place) (take len items) some.0 r (grind arith) some.1 some.2 in
         let latest = ap (λ i. (window bs i).latest) place in
@@ -192,7 +192,7 @@ module _ (bs : List Window) (waiting : List (Option ℕ)) (items : List Ready) (
     queue_popped = record {
       room = omega (arith, q.room, pop.long);
       long = length-set waiting (channel_at bs r.place) (Some (r.place + 1)) ∙ q.long;
-      readings = (popped_all r items len items' len' due pop (IsReading bs) q.readings).1;
+      readings = (popped_all r items len items' len' may_precede pop (IsReading bs) q.readings).1;
       once = λ c.
           let count = popped_count c in
           ⊎_elim
@@ -212,7 +212,7 @@ module _ (bs : List Window) (waiting : List (Option ℕ)) (items : List Ready) (
         next_of bs (set waiting (channel_at bs r.place) (Some (r.place + 1))) (take len' items') c ≡ next_of bs waiting (take len items) c
     next_other c other =
         let apart = ne_eqb (channel_at bs r.place) c (λ e. other (sym e)) in
-        let sum = popped_sum r items len items' len' due pop (λ s. cond (of_channel bs c s) s.place 0) in
+        let sum = popped_sum r items len items' len' may_precede pop (λ s. cond (of_channel bs c s) s.place 0) in
         let kept : ready_place bs (take len' items') c ≡ ready_place bs (take len items) c = grind arith in
         ap (λ o. unwrap_or o (ready_place bs (take len' items') c)) (waits_other c other) ∙ ap (unwrap_or (get_or waiting c (Some 0))) kept
 
@@ -230,7 +230,7 @@ module _ (bs : List Window) (waiting : List (Option ℕ)) (items : List Ready) (
     }
 
 -- the next reading r of channel c, which waits and comes by t, becomes ready; the code names the channel k
-module _ (bs : List Window) (waiting : List (Option ℕ)) (items : List Ready) (len : ℕ) (sound : Sound due items len) (q : Queued bs waiting items len)
+module _ (bs : List Window) (waiting : List (Option ℕ)) (items : List Ready) (len : ℕ) (sound : Sound may_precede items len) (q : Queued bs waiting items len)
     (c k t : ℕ) (r : Ready) (below : c < 64) (at : k ≡ c) (told : Coming bs waiting (take len items) c t (Some r)) where
   -- the channel's number is that of the reading
   coming_at : k ≡ channel_at bs r.place
@@ -258,8 +258,8 @@ module _ (bs : List Window) (waiting : List (Option ℕ)) (items : List Ready) (
     coming_admitted = rw (sym at ∙ coming_at, coming_at) (admitted_here bs waiting items len sound q r coming_reading coming_waits items' len' push t (told.1.0, refl, told.1.2))
 
 -- the reading r is taken out; the code names its channel k
-module _ (bs : List Window) (waiting : List (Option ℕ)) (items : List Ready) (len : ℕ) (sound : Sound due items len) (q : Queued bs waiting items len)
-    (r : Ready) (items' : List Ready) (len' : ℕ) (pop : Popped due r items len items' len') (k : ℕ) (at : k ≡ channel_at bs r.place) where
+module _ (bs : List Window) (waiting : List (Option ℕ)) (items : List Ready) (len : ℕ) (sound : Sound may_precede items len) (q : Queued bs waiting items len)
+    (r : Ready) (items' : List Ready) (len' : ℕ) (pop : Popped may_precede r items len items' len') (k : ℕ) (at : k ≡ channel_at bs r.place) where
   -- the heap keeps what it should
   pub taken_queued : Queued bs (set waiting k (Some (r.place + 1))) items' len'
   taken_queued = rw at (queue_popped bs waiting items len sound q r items' len' pop)

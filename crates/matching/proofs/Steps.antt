@@ -3,9 +3,9 @@ use Rattle.std.proofs.Common.{◌≡◌, ℕ, ◌+◌, ◌-◌, ◌<◌, ◌≤�
 use Rattle.std.proofs.lemmas.List.{get_or-set_other, get_or-set_same}
 use Rattle.std.proofs.lemmas.List.Sums.{sum_by-set}
 use Rattle.std.proofs.lemmas.Bool.{and_from, and_parts, both_ways, cases_eq, cases_lt, le-leb, le-ltb, leb-true, lt-ltb, ltb-false, not-true}
-use Rattle.matching.specs.Matchings.{IsCrowded, inside, within}
+use Rattle.matching.specs.Matchings.{Due, IsCrowded, inside, within}
 use Rattle.matching.specs.Queues.{Admitted, Comes, TakenOut, channel_at}
-use Rattle.matching.specs.States.{Come, Cursors, Filled, LastMovable, Sooner, State, has_slot}
+use Rattle.matching.specs.States.{Come, Cursors, Filled, LastMovable, State, has_slot}
 use Rattle.matching.specs.Windows.{blank, window, with_slot}
 use Rattle.matching.specs.declared.ready.Ready.{Ready}
 use Rattle.matching.specs.declared.window.Window.{Window}
@@ -129,7 +129,7 @@ module _ (bs ws : List Window) (t : ℕ) (next next' : ℕ → ℕ) (before read
     out_come = omega (arith, come_now (channel_at bs r.place) out.marked, ap (λ i. (window bs i).earliest) out.front)
 
     -- and it is due before every other that may
-    out_first : (j : ℕ) → j < length bs → (window ws j).slot ≡ 0 → (j ≡ r.place → ⊥) → (window bs j).earliest ≤ t + 1 → Sooner (λ i. (window bs i).latest) r.place j
+    out_first : (j : ℕ) → j < length bs → (window ws j).slot ≡ 0 → (j ≡ r.place → ⊥) → (window bs j).earliest ≤ t + 1 → Due (λ i. (window bs i).latest) r.place j
     out_first j here free other opens =
         let h = in_heap j here free opens in
         let first = out.first (channel_at bs j) h.0 in

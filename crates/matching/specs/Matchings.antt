@@ -12,16 +12,16 @@ pub record Assignment (ws : List Window) (slot : ℕ → ℕ) : Type 0 where
   pub inside : (i : ℕ) → i < length ws → ((window ws i).earliest ≤ slot i) × (slot i ≤ (window ws i).latest)
   pub apart : (i j : ℕ) → i < length ws → j < length ws → slot i ≡ slot j → i ≡ j
 
--- reading i is due before reading j: a smaller latest, or the same latest and a smaller place
-abbrev pub Due : List Window → ℕ → ℕ → Type 0
-Due ws i j = ((window ws i).latest < (window ws j).latest) ⊎ (((window ws i).latest ≡ (window ws j).latest) × (i < j))
+-- of readings with these latest slots, i is due before j: a smaller latest, or the same latest and a smaller place
+abbrev pub Due : (ℕ → ℕ) → ℕ → ℕ → Type 0
+Due latest i j = (latest i < latest j) ⊎ ((latest i ≡ latest j) × (i < j))
 
 -- the slots that stand in the records are those of Glover's rule: slot after slot, of the readings that are not
 -- placed yet and whose earliest has come, the one that is due first
 pub record Placement (ws : List Window) : Type 0 where
   pub assigned : Assignment ws (λ i. (window ws i).slot)
   pub filled : (s : ℕ) → 1 ≤ s → s ≤ length ws → (i : ℕ) × (i < length ws) × ((window ws i).slot ≡ s)
-  pub soonest : (i j : ℕ) → i < length ws → j < length ws → (window ws i).slot < (window ws j).slot → (window ws j).earliest ≤ (window ws i).slot → Due ws i j
+  pub soonest : (i j : ℕ) → i < length ws → j < length ws → (window ws i).slot < (window ws j).slot → (window ws j).earliest ≤ (window ws i).slot → Due (λ k. (window ws k).latest) i j
 
 -- other slots of the same windows are no placement
 abbrev pub OnlyPlacement : List Window → Type 0

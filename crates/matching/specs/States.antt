@@ -1,13 +1,10 @@
 -- How far the placing has come: the first t slots are filled, and slot 0 in a record means that its reading has no slot
 -- yet. These definitions serve the proofs only; bs are the records without slots.
 use Rattle.std.specs.Prelude.{◌≡◌, ℕ, ◌<◌, ◌≤◌, Bool, true, ◌⊎◌, List, length, count_by, nat_lt}
+use Rattle.matching.specs.Matchings.{Due}
 use Rattle.matching.specs.Queues.{NextUpTo, channel_at}
 use Rattle.matching.specs.Windows.{Arranged, blank, window}
 use Rattle.matching.specs.declared.window.Window.{Window}
-
--- reading i comes before reading j: a smaller latest, or the same latest and a smaller place
-abbrev pub Sooner : (ℕ → ℕ) → ℕ → ℕ → Type 0
-Sooner l i j = (l i < l j) ⊎ ((l i ≡ l j) × (i < j))
 
 -- of n readings with earliest e, latest l and slot s, the first t slots are filled
 pub record Progress (n : ℕ) (e l s : ℕ → ℕ) (t : ℕ) : Type 0 where
@@ -17,8 +14,8 @@ pub record Progress (n : ℕ) (e l s : ℕ → ℕ) (t : ℕ) : Type 0 where
   pub filled : (k : ℕ) → 1 ≤ k → k ≤ t → (i : ℕ) × (i < n) × (s i ≡ k)
   -- no two placed readings have the same slot
   pub apart : (i j : ℕ) → i < n → j < n → 0 < s i → s i ≡ s j → i ≡ j
-  -- a placed reading comes before each that is placed later, or not at all, and could stand in its slot
-  pub soonest : (i j : ℕ) → i < n → j < n → 0 < s i → (s j ≡ 0) ⊎ (s i < s j) → e j ≤ s i → Sooner l i j
+  -- a placed reading is due before each that is placed later, or not at all, and could stand in its slot
+  pub soonest : (i j : ℕ) → i < n → j < n → 0 < s i → (s j ≡ 0) ⊎ (s i < s j) → e j ≤ s i → Due l i j
 
 -- whether the reading of a record has a slot
 abbrev pub has_slot : Window → Bool

@@ -7,17 +7,17 @@ use Rattle.matching.specs.declared.window.Window.{Window}
 abbrev pub window : List Window → ℕ → Window
 window ws i = slice_index_or ws i (record { channel = 0; reading = 0; earliest = 0; latest = 0; slot = 0 })
 
--- the window of a record, without the slot that it was given
+-- a record with another slot
+abbrev pub with_slot : Window → ℕ → Window
+with_slot w s = record { channel = w.channel; reading = w.reading; earliest = w.earliest; latest = w.latest; slot = s }
+
+-- a record without the slot that it was given
 abbrev pub bare : Window → Window
-bare w = record { channel = w.channel; reading = w.reading; earliest = w.earliest; latest = w.latest; slot = 0 }
+bare w = with_slot w 0
 
 -- the records without the slots that they were given
 abbrev pub blank : List Window → List Window
 blank ws = map bare ws
-
--- a record with another slot
-abbrev pub with_slot : Window → ℕ → Window
-with_slot w s = record { channel = w.channel; reading = w.reading; earliest = w.earliest; latest = w.latest; slot = s }
 
 -- a window that is not shut, of a channel up to 63, in a round of n slots
 pub record Usable (n : ℕ) (w : Window) : Type 0 where

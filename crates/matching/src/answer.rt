@@ -16,7 +16,9 @@ pub struct Crowd {
 pub enum Unplaced {
     /// There are fewer than 64 ready places.
     ReadyPlaces,
-    /// The windows do not stand as the matching takes them.
+    /// The windows are not arranged: there are more than 4,096, one is shut or lies outside the
+    /// slots or is of no channel number, they are not by channel and then reading, or an end falls
+    /// from one reading of a channel to the next.
     Windows,
     /// No assignment exists, since some slots are crowded.
     Crowded(Crowd),

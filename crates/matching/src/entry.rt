@@ -12,8 +12,9 @@ use heap::Heap;
 use limits::CHANNELS;
 
 /// Gives every reading a slot of its window, in a round of as many slots as there are windows, or
-/// shows slots that are too crowded for that. The slot fields are written, and of `ready` the first
-/// 64 places.
+/// shows slots that are too crowded for that; then the slot fields are free. It refuses fewer than
+/// 64 ready places, and windows that are not arranged, and changes nothing then. Only slot fields are
+/// written, and of `ready` the first 64 places.
 pub fn place(windows: &mut [Window], ready: &mut [Ready]) -> Result<(), Unplaced>
     ensures windows { blank windows.new ≡ blank windows.old }
     ensures ready { drop 64 ready.new ≡ drop 64 ready.old }

@@ -1,6 +1,6 @@
 // A reading that is ready to be placed, and the order in which ready readings are due.
 ghost use Rattle.std.specs.Prelude.{◌<◌, ◌≤◌, MatchBool};
-ghost use Rattle.matching.specs.Ready.{due};
+ghost use Rattle.matching.specs.Ready.{may_precede};
 ghost use Rattle.std.proofs.Common.{rules};
 ghost use Rattle.std.specs.Cmp.Rules.{comparing};
 
@@ -26,7 +26,7 @@ impl Ready {
 
 /// Ready readings are due by their latest, and at the same latest by their place.
 impl Ordered for Ready {
-    ghost leq = { due };
+    ghost leq = { may_precede };
 
     ghost total = { Prim.search (comparing, rules) };
 

@@ -14,15 +14,15 @@ use heap::Heap;
 use limits::CHANNELS;
 
 /// The windows of a round while its slots are filled, and which readings wait. Of each channel at
-/// most one reading is ready, its next one: the ends of its window are nowhere before those of the
-/// channel's later readings, so none of these is due before it.
+/// most one reading is ready, its next one: neither end of its window is after that of a later
+/// reading of the channel, so none of these is due before it.
 // The heap stands beside it: a round that holds the heap too did not prove (docs/DECISIONS.md).
 #[derive(Drop)]
 pub(crate) struct Round<'a> {
     // The windows, with the slots that are given so far.
     windows: &'a mut [Window],
-    // For each channel number the place of its next reading, while that is not ready; free for a
-    // channel without one.
+    // For each channel number the place of its next reading, or `None` while that is ready. For a
+    // channel without one it is a place at which no reading of it stands.
     waiting: [Option<u16>; CHANNELS],
     ghost arranged: { Arranged (blank windows.now) } by { Arranged-prop (blank windows.now) },
 }
@@ -101,6 +101,7 @@ impl<'a> Round<'a> {
         ensures lent { Lent self.old ready.old self.new ready.new }
     {
         if let Some(reading) = self.coming(channel, slot) {
+            // There is room: no other reading of this channel is there.
             ready.push(reading).unwrap();
             self.waiting[usize::from(channel)] = None;
         }
@@ -144,8 +145,8 @@ impl<'a> Round<'a> {
         self.crowd(slot + 1, self.slots())
     }
 
-    // The crowd where a reading is late: the slots up to its latest, from where no reading before
-    // them could make room.
+    // The crowd where a reading is late: the slots up to its latest, from after the last one whose
+    // reading could also stand after that.
     fn crowd_upto(&self, latest: u16) -> Crowd
         requires { latest ≤ length self.now.windows.now }
         ensures { (a : ℕ) × LastMovable self.now.windows.now latest a × (result ≡ crowd_of self.now.windows.now (a + 1) latest) }
@@ -165,13 +166,13 @@ impl<'a> Round<'a> {
     }
 }
 
-// The place of the first reading of each channel; what stands there for a channel without readings
-// is free.
+// The place of the first reading of each channel, and for a channel without readings a place at
+// which none of it stands.
 fn first_places(windows: &[Window]) -> [Option<u16>; CHANNELS]
     requires { Arranged (blank windows.now) }
     ensures { Starts (blank windows.now) result }
 {
-    // `Some` for a channel without readings too, since `None` is ready: the place is then seen to be another's.
+    // `Some` for a channel without readings too, since `None` would mean that its next reading is ready.
     let mut waiting = [Some(0); CHANNELS];
     for (place, window) in windows.iter().enumerate().rev() {
         waiting[usize::from(window.channel)] = Some(place as u16);

@@ -57,7 +57,7 @@ two_filled (suc (suc zero)) from to = (1, omega arith, refl)
 two_filled (suc (suc (suc s))) from to = absurd (omega arith)
 
 -- and channel 0, which is placed first, is due first
-two_soonest : (i j : ℕ) → i < 2 → j < 2 → (window (placed_in 1 2) i).slot < (window (placed_in 1 2) j).slot → (window (placed_in 1 2) j).earliest ≤ (window (placed_in 1 2) i).slot → Due (placed_in 1 2) i j
+two_soonest : (i j : ℕ) → i < 2 → j < 2 → (window (placed_in 1 2) i).slot < (window (placed_in 1 2) j).slot → (window (placed_in 1 2) j).earliest ≤ (window (placed_in 1 2) i).slot → Due (λ k. (window (placed_in 1 2) k).latest) i j
 two_soonest zero zero h k before opens = absurd (omega arith)
 two_soonest zero (suc zero) h k before opens = inr (refl, omega arith)
 two_soonest zero (suc (suc j)) h k before opens = absurd (omega arith)

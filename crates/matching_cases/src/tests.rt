@@ -123,6 +123,26 @@ fn refused(rt: HostRuntime) {
     );
 }
 
+// Of lent memory only slots and the first 64 ready places are written.
+#[test]
+fn memory_untouched(rt: HostRuntime) {
+    let mark = Ready {
+        latest: 7,
+        place: 9,
+    };
+    let mut ready = [mark; CHANNELS + 1];
+    let mut windows = [window(0, 1, 1, 2), window(1, 1, 1, 2)];
+    assert_eq!(rt; place(&mut windows, &mut ready), Ok(()));
+    assert_eq!(rt; ready[CHANNELS], mark);
+    assert_eq!(rt;
+        windows[1],
+        Window {
+            slot: 2,
+            ..window(1, 1, 1, 2)
+        }
+    );
+}
+
 // A kind of element that comes out by its number.
 #[derive(Clone, Copy, PartialEq, Eq, PartialOrd, Ord, Debug)]
 struct Numbered(u32);

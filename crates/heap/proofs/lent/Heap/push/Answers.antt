@@ -4,8 +4,8 @@ use Rattle.std.proofs.lemmas.List.{length-set}
 use Rattle.heap.proofs.Exchanges.{pushes}
 use Rattle.heap.proofs.lent.Heap.push.Goals as goal
 
-pub returns-clause-outcome : goal.returns-clause-outcome
-returns-clause-outcome g c =
+pub returns-clause-pushed : goal.returns-clause-pushed
+returns-clause-pushed g c =
     let h = c.args.self.now in
     let zs = c.sift_up.new.items in
     let long : length zs ≡ length h.items.now = c.sift_up.auto.items ∙ length-set _ _ _ in

@@ -11,7 +11,7 @@ returns-clause-taken c =
     let h = c.args.ready.now in
     let g = c.pop.new.self in
     let r = c.in_ok-reading.reading in
-    taken_at (blank ws) c.args.self.now.waiting h.items.now h.len h.sound c.requires r g.items.now g.len c.in_ok-reading.ensures.outcome
+    taken_at (blank ws) c.args.self.now.waiting h.items.now h.len h.sound c.requires r g.items.now g.len c.in_ok-reading.ensures.popped
     c.from-channel.result (channel-blank ws r.place c.from.result c.from-channel.result c.from.ensures c.from-channel.ensures)
 
 pub returns-clause-kept : goal.returns-clause-kept
@@ -20,7 +20,7 @@ returns-clause-kept c =
     let h = c.args.ready.now in
     let g = c.pop.new.self in
     let r = c.in_ok-reading.reading in
-    let pop = c.in_ok-reading.ensures.outcome in
+    let pop = c.in_ok-reading.ensures.popped in
     record {
       queued = taken_queued (blank ws) c.args.self.now.waiting h.items.now h.len h.sound c.requires r g.items.now g.len pop
           c.from-channel.result (channel-blank ws r.place c.from.result c.from-channel.result c.from.ensures c.from-channel.ensures);
