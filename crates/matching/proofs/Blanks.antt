@@ -2,8 +2,7 @@
 use Rattle.std.proofs.Common.{◌≡◌, ℕ, zero, suc, List, [], ◌∷◌, length, get_or, set, sym, refl, ap, ◌∙◌, arith}
 use Rattle.std.proofs.lemmas.List.{length-map, map-set, set-get_or}
 use Rattle.matching.specs.Matchings.{inside, within}
-use Rattle.matching.specs.Queues.{channel_at}
-use Rattle.matching.specs.Windows.{bare, blank, window, with_slot}
+use Rattle.matching.specs.Windows.{bare, blank, channel_at, earliest_at, latest_at, window, with_slot}
 use Rattle.matching.specs.declared.window.Window.{Window}
 use Rattle.matching.proofs.Counting.{count-cons}
 
@@ -37,6 +36,14 @@ length_same ws bs same = sym (length-blank ws) ∙ ap length same
 -- and have the same windows
 pub window_same : (ws bs : List Window) → blank ws ≡ bs → (i : ℕ) → window bs i ≡ bare (window ws i)
 window_same ws bs same i = ap (λ (l : List Window). window l i) (sym same) ∙ window-blank ws i
+
+-- so the ends of a window do not depend on the slots: not its earliest
+pub earliest_same : (ws bs : List Window) → blank ws ≡ bs → (i : ℕ) → earliest_at bs i ≡ earliest_at ws i
+earliest_same ws bs same i = ap (λ w. w.earliest) (window_same ws bs same i)
+
+-- nor its latest
+pub latest_same : (ws bs : List Window) → blank ws ≡ bs → (i : ℕ) → latest_at bs i ≡ latest_at ws i
+latest_same ws bs same i = ap (λ w. w.latest) (window_same ws bs same i)
 
 -- as many of which lie inside an interval
 inside_of_blank : (a b : ℕ) (ws : List Window) → inside a b (blank ws) ≡ inside a b ws

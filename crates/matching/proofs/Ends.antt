@@ -1,13 +1,13 @@
 -- The placing before the first slot and after the last one, and what is said of the records that were given.
-use Rattle.std.proofs.Common.{◌≡◌, ℕ, ◌+◌, ◌<◌, List, [], length, Option, count_by, sym, refl, ap, ◌∙◌, inr, ⊎_elim, arith}
+use Rattle.std.proofs.Common.{◌≡◌, ℕ, ◌+◌, ◌<◌, List, [], length, Option, count_by, sym, refl, ◌∙◌, inr, ⊎_elim, arith}
 use Rattle.std.proofs.lemmas.Bool.{both_ways, cases_lt, ltb-true}
 use Rattle.matching.specs.Matchings.{IsCrowded, Placement}
 use Rattle.matching.specs.Queues.{Starts, is_ready, next_of}
 use Rattle.matching.specs.States.{Filled, State, has_slot}
-use Rattle.matching.specs.Windows.{Arranged, blank, window}
+use Rattle.matching.specs.Windows.{Arranged, blank, earliest_at, latest_at, slot_at, window}
 use Rattle.matching.specs.declared.ready.Ready.{Ready}
 use Rattle.matching.specs.declared.window.Window.{Window}
-use Rattle.matching.proofs.Blanks.{inside-blank, length-blank, length_same, window-blank, window_same}
+use Rattle.matching.proofs.Blanks.{earliest_same, inside-blank, latest_same, length-blank, length_same, window-blank}
 use Rattle.matching.proofs.Counting.{count_all, count_some}
 use Rattle.matching.proofs.Progress.{progress_none}
 
@@ -20,7 +20,9 @@ arranged_blank ws a =
       usable = λ i here.
           let u = a.usable i (omega arith) in
           rw (long, window-blank ws i) (record { channel = u.channel; first = u.first; opens = u.opens; last = u.last });
-      follows = λ i here. rw (window-blank ws i, window-blank ws (i + 1)) (a.follows i (omega arith));
+      follows = λ i here.
+          let f = a.follows i (omega arith) in
+          rw (window-blank ws i, window-blank ws (i + 1)) (record { channel = f.channel; reading = f.reading; earliest = f.earliest; latest = f.latest });
     }
 
 -- a crowded interval is one whatever slots stand in the records
@@ -34,23 +36,23 @@ crowd_same ws bs same a b number crowd = record {
 }
 
 -- no record has a slot at first
-none_counted : (ws : List Window) → ((i : ℕ) → (window ws i).slot ≡ 0) → count_by has_slot ws ≡ 0
+none_counted : (ws : List Window) → ((i : ℕ) → slot_at ws i ≡ 0) → count_by has_slot ws ≡ 0
 none_counted ws none = ⊎_elim
     (λ some.
     let one = count_some has_slot ws (window [] 0) some in
-    absurd (omega (arith, none one.0, ltb-true 0 (window ws one.0).slot one.2)))
+    absurd (omega (arith, none one.0, ltb-true 0 (slot_at ws one.0) one.2)))
     (λ zero. omega arith)
     (cases_lt 0 (count_by has_slot ws))
 
 -- before the first slot
-pub state_begins : (ws : List Window) (waiting : List (Option ℕ)) (kept : List Ready) → kept ≡ [] → Arranged (blank ws) → ((i : ℕ) → (window ws i).slot ≡ 0) → Starts (blank ws) waiting →
+pub state_begins : (ws : List Window) (waiting : List (Option ℕ)) (kept : List Ready) → kept ≡ [] → Arranged (blank ws) → ((i : ℕ) → slot_at ws i ≡ 0) → Starts (blank ws) waiting →
     State (blank ws) ws 0 (next_of (blank ws) waiting kept) (is_ready waiting)
 state_begins ws waiting kept empty arranged none starts = rw empty (record {
   slots = record {
     arranged = arranged;
     same = refl;
     counted = none_counted ws none;
-    progress = progress_none (length (blank ws)) (λ i. (window (blank ws) i).earliest) (λ i. (window (blank ws) i).latest) (λ i. (window ws i).slot) (λ i here. none i);
+    progress = progress_none (length (blank ws)) (earliest_at (blank ws)) (latest_at (blank ws)) (slot_at ws) (λ i here. none i);
   };
   cursors = record { ahead = λ j here free. starts.first j here; behind = λ j here upto. none j };
   come = λ c mark. absurd (both_ways _ (starts.all_wait c) mark);
@@ -61,10 +63,10 @@ pub placement : (bs ws : List Window) (t : ℕ) → t ≡ length bs → Filled b
 placement bs ws t all f =
     let long = length_same ws bs f.same in
     let p = f.progress in
-    let earliest : (i : ℕ) → (window bs i).earliest ≡ (window ws i).earliest = λ i. ap (λ w. w.earliest) (window_same ws bs f.same i) in
-    let latest : (i : ℕ) → (window bs i).latest ≡ (window ws i).latest = λ i. ap (λ w. w.latest) (window_same ws bs f.same i) in
-    let placed : (i : ℕ) → i < length ws → 0 < (window ws i).slot = λ i here.
-    ltb-true 0 (window ws i).slot (count_all has_slot ws (omega (arith, f.counted)) i (window [] 0) here) in
+    let earliest = earliest_same ws bs f.same in
+    let latest = latest_same ws bs f.same in
+    let placed : (i : ℕ) → i < length ws → 0 < slot_at ws i = λ i here.
+    ltb-true 0 (slot_at ws i) (count_all has_slot ws (omega (arith, f.counted)) i (window [] 0) here) in
     record {
       assigned = record {
         inside = λ i here.

@@ -10,9 +10,9 @@ use Rattle.std.proofs.lemmas.Bool.{cases_Bool, cases_eq, cases_lt, eq-eqb, eqb-f
 use Rattle.std.proofs.lemmas.Bool.Decides.{nat_tests}
 use Rattle.heap.specs.Heaps.{Popped, Pushed, Sound}
 use Rattle.heap.proofs.Kept.{popped_all, popped_sum, pushed_all, pushed_sum}
-use Rattle.matching.specs.Queues.{AdmittedAt, Comes, Coming, IsReading, NextUpTo, Queued, Starts, TakenOut, channel_at, is_ready, next_of, of_channel, ready_place}
+use Rattle.matching.specs.Queues.{AdmittedAt, Comes, Coming, IsReading, NextUpTo, Queued, Starts, TakenOut, is_ready, next_of, of_channel, ready_place}
 use Rattle.matching.specs.Ready.{may_precede}
-use Rattle.matching.specs.Windows.{window}
+use Rattle.matching.specs.Windows.{channel_at, latest_at, window}
 use Rattle.matching.specs.declared.ready.Ready.{Ready}
 use Rattle.matching.specs.declared.window.Window.{Window}
 use Rattle.matching.proofs.Counting.{count-cons, count_some, few_keys, sum_none, sum_one}
@@ -176,7 +176,7 @@ module _ (bs : List Window) (waiting : List (Option ℕ)) (items : List Ready) (
         let first = due_parts r s (All-get_or (λ y. may_precede r y ≡ true) (take len items) some.0 r some.1 pop.first.before) in
         let place : next_of bs waiting (take len items) c ≡ s.place =
         next_ready c mark ∙ sum_one (of_channel bs c) (λ x. x.place) (take len items) some.0 r (grind arith) some.1 some.2 in
-        let latest = ap (λ i. (window bs i).latest) place in
+        let latest = ap (latest_at bs) place in
         let same = is.latest in
         grind arith
 

@@ -4,12 +4,12 @@ use Rattle.std.proofs.lemmas.List.{get_or-set_other, get_or-set_same}
 use Rattle.std.proofs.lemmas.List.Sums.{sum_by-set}
 use Rattle.std.proofs.lemmas.Bool.{and_from, and_parts, both_ways, cases_eq, cases_lt, le-leb, le-ltb, leb-true, lt-ltb, ltb-false, not-true}
 use Rattle.matching.specs.Matchings.{Due, IsCrowded, inside, within}
-use Rattle.matching.specs.Queues.{Admitted, Comes, TakenOut, channel_at}
+use Rattle.matching.specs.Queues.{Admitted, Comes, TakenOut}
 use Rattle.matching.specs.States.{Come, Cursors, Filled, LastMovable, State, has_slot}
-use Rattle.matching.specs.Windows.{blank, window, with_slot}
+use Rattle.matching.specs.Windows.{blank, channel_at, earliest_at, latest_at, slot_at, window, with_slot}
 use Rattle.matching.specs.declared.ready.Ready.{Ready}
 use Rattle.matching.specs.declared.window.Window.{Window}
-use Rattle.matching.proofs.Blanks.{blank-set, inside-blank, length_same, window_same}
+use Rattle.matching.proofs.Blanks.{blank-set, earliest_same, inside-blank, latest_same, length_same}
 use Rattle.matching.proofs.Counting.{count_both, count_some, count_weaker, keys_at_least}
 use Rattle.matching.proofs.Orders.{channels_rise, ends_rise}
 use Rattle.matching.proofs.Progress.{late_keys, late_upward, progress_more}
@@ -19,20 +19,12 @@ module _ (bs ws : List Window) (t : ℕ) (f : Filled bs ws t) where
   long : length ws ≡ length bs
   long = length_same ws bs f.same
 
-  -- the ends of a window do not depend on the slots
-  latest_same : (i : ℕ) → (window bs i).latest ≡ (window ws i).latest
-  latest_same i = ap (λ w. w.latest) (window_same ws bs f.same i)
-
-  -- neither end of them does
-  earliest_same : (i : ℕ) → (window bs i).earliest ≡ (window ws i).earliest
-  earliest_same i = ap (λ w. w.earliest) (window_same ws bs f.same i)
-
   -- an interval that has a window inside goes upward
   inside_upward : (a b i : ℕ) → i < length ws → within a b (window ws i) ≡ true → a ≤ b
   inside_upward a b i here passes =
       let parts = and_parts (leb a (window ws i).earliest) (leb (window ws i).latest b) passes in
       let opens = (f.arranged.usable i (omega (arith, long))).opens in
-      omega (arith, leb-true a (window ws i).earliest parts.0, leb-true (window ws i).latest b parts.1, earliest_same i, latest_same i)
+      omega (arith, leb-true a (window ws i).earliest parts.0, leb-true (window ws i).latest b parts.1, earliest_same ws bs f.same i, latest_same ws bs f.same i)
 
   -- where no reading without a slot comes by slot t + 1, the slots after it are crowded
   crowd_after : t < length bs → ((j : ℕ) → j < length bs → (window ws j).slot ≡ 0 → t + 1 < (window bs j).earliest) →
@@ -43,7 +35,7 @@ module _ (bs ws : List Window) (t : ℕ) (f : Filled bs ws t) where
       (λ i h free.
       let later = none i (omega (arith, long)) (let zero = ltb-false 0 (window ws i).slot (not-true _ free) in omega arith) in
       let last = (f.arranged.usable i (omega (arith, long))).last in
-      and_from _ _ (le-leb (t + 1 + 1) (window ws i).earliest (omega (arith, earliest_same i))) (le-leb (window ws i).latest (length bs) (omega (arith, latest_same i)))) in
+      and_from _ _ (le-leb (t + 1 + 1) (window ws i).earliest (omega (arith, earliest_same ws bs f.same i))) (le-leb (window ws i).latest (length bs) (omega (arith, latest_same ws bs f.same i)))) in
       let one = count_some (within (t + 1 + 1) (length bs)) ws (window [] 0) (omega (arith, long, f.counted)) in
       let upward = inside_upward (t + 1 + 1) (length bs) one.0 one.1 one.2 in
       record {
@@ -58,20 +50,20 @@ module _ (bs ws : List Window) (t : ℕ) (f : Filled bs ws t) where
   crowd_before : (i : ℕ) → i < length bs → (window ws i).slot ≡ 0 → (window bs i).latest ≤ t → (a : ℕ) → LastMovable ws (window bs i).latest a →
       IsCrowded bs (a + 1) (window bs i).latest (inside (a + 1) (window bs i).latest ws)
   crowd_before i here free late a movable =
-      let e : ℕ → ℕ = λ k. (window bs k).earliest in
-      let l : ℕ → ℕ = λ k. (window bs k).latest in
-      let s : ℕ → ℕ = λ k. (window ws k).slot in
+      let e = earliest_at bs in
+      let l = latest_at bs in
+      let s = slot_at ws in
       let first : (k : ℕ) → k < length bs → 1 ≤ e k = λ k h. (f.arranged.usable k h).first in
       let opens = (f.arranged.usable i here).opens in
       let after : (a ≡ 0) ⊎ ((r : ℕ) × (r < length bs) × (s r ≡ a) × (l i < l r)) =
-      ⊎_elim inl (λ r. inr (r.0, omega (arith, long, r.1), r.2, omega (arith, latest_same r.0, r.3))) movable.found in
-      let up : (r : ℕ) → r < length bs → l i < l r → s r ≤ l i → s r ≤ a = λ r h more within. movable.last r (omega (arith, long)) (omega (arith, latest_same r)) within in
+      ⊎_elim inl (λ r. inr (r.0, omega (arith, long, r.1), r.2, omega (arith, latest_same ws bs f.same r.0, r.3))) movable.found in
+      let up : (r : ℕ) → r < length bs → l i < l r → s r ≤ l i → s r ≤ a = λ r h more within. movable.last r (omega (arith, long)) (omega (arith, latest_same ws bs f.same r)) within in
       let keys = late_keys (length bs) e l s t f.progress first i here free opens late a after up in
       let upward = late_upward (length bs) e l s t f.progress first i here free opens late a after up in
       let many = keys_at_least (within (a + 1) (l i)) (λ w. w.slot - a) ws (window [] 0) (l i - a + 1)
       (λ q below.
       let k = keys q below in
-      (k.0, omega (arith, long, k.1), and_from _ _ (le-leb (a + 1) _ (omega (arith, earliest_same k.0, k.2))) (le-leb _ (l i) (omega (arith, latest_same k.0, k.3))), k.4)) in
+      (k.0, omega (arith, long, k.1), and_from _ _ (le-leb (a + 1) _ (omega (arith, earliest_same ws bs f.same k.0, k.2))) (le-leb _ (l i) (omega (arith, latest_same ws bs f.same k.0, k.3))), k.4)) in
       let last = (f.arranged.usable i here).last in
       record {
         from = omega arith;
@@ -85,7 +77,7 @@ module _ (bs ws : List Window) (t : ℕ) (next next' : ℕ → ℕ) (before read
   -- the earliest of every reading that is ready now is at most t + 1
   come_now : Come bs next' ready (t + 1)
   come_now c mark =
-      let same = ap (λ i. (window bs i).earliest) (admitted.same c) in
+      let same = ap (earliest_at bs) (admitted.same c) in
       ⊎_elim (λ was. omega (arith, state.come c was)) (λ comes. omega (arith, comes.2)) (admitted.only c mark)
 
   -- the next readings are still the first ones without a slot
@@ -126,10 +118,10 @@ module _ (bs ws : List Window) (t : ℕ) (next next' : ℕ → ℕ) (before read
 
     -- it may stand in slot t + 1
     out_come : (window bs r.place).earliest ≤ t + 1
-    out_come = omega (arith, come_now (channel_at bs r.place) out.marked, ap (λ i. (window bs i).earliest) out.front)
+    out_come = omega (arith, come_now (channel_at bs r.place) out.marked, ap (earliest_at bs) out.front)
 
     -- and it is due before every other that may
-    out_first : (j : ℕ) → j < length bs → (window ws j).slot ≡ 0 → (j ≡ r.place → ⊥) → (window bs j).earliest ≤ t + 1 → Due (λ i. (window bs i).latest) r.place j
+    out_first : (j : ℕ) → j < length bs → (window ws j).slot ≡ 0 → (j ≡ r.place → ⊥) → (window bs j).earliest ≤ t + 1 → Due (latest_at bs) r.place j
     out_first j here free other opens =
         let h = in_heap j here free opens in
         let first = out.first (channel_at bs j) h.0 in
@@ -172,7 +164,7 @@ module _ (bs ws : List Window) (t : ℕ) (next next' : ℕ → ℕ) (before read
         arranged = state.slots.arranged;
         same = ap blank is ∙ blank-set ws r.place (t + 1) ∙ state.slots.same;
         counted = one_more;
-        progress = progress_more (length bs) (λ i. (window bs i).earliest) (λ i. (window bs i).latest) (λ i. (window ws i).slot) (λ i. (window ws' i).slot) t r.place
+        progress = progress_more (length bs) (earliest_at bs) (latest_at bs) (slot_at ws) (slot_at ws') t r.place
             state.slots.progress out.was.within out_free out_come still out_first slot_here slot_other;
       }
 
@@ -184,7 +176,7 @@ module _ (bs ws : List Window) (t : ℕ) (next next' : ℕ → ℕ) (before read
       cursors_more : Cursors bs ws' next''
       cursors_more = record {
         ahead = λ j here free.
-            let other : j ≡ r.place → ⊥ = λ same. let slot = ap (λ i. (window ws' i).slot) same ∙ slot_here in omega arith in
+            let other : j ≡ r.place → ⊥ = λ same. let slot = ap (slot_at ws') same ∙ slot_here in omega arith in
             let old = cursors_now.ahead j here (sym (slot_other j other) ∙ free) in
             ⊎_elim
             (λ at.
@@ -210,7 +202,7 @@ module _ (bs ws : List Window) (t : ℕ) (next next' : ℕ → ℕ) (before read
       come_more : Come bs next'' ready' (t + 1)
       come_more c mark = ⊎_elim
           (λ at. absurd (both_ways _ (ap ready' at ∙ out.waits) mark))
-          (λ apart. let same = out.others c apart in omega (arith, come_now c (sym same.1 ∙ mark), ap (λ i. (window bs i).earliest) same.0))
+          (λ apart. let same = out.others c apart in omega (arith, come_now c (sym same.1 ∙ mark), ap (earliest_at bs) same.0))
           (cases_eq c (channel_at bs r.place))
 
       -- else it takes slot t + 1

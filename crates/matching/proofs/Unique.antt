@@ -4,9 +4,9 @@ use Rattle.std.proofs.lemmas.Bool.{cases_eq, cases_lt}
 use Rattle.std.proofs.lemmas.List.{ext_get_or}
 use Rattle.matching.specs.Matchings.{OnlyPlacement, Placement}
 use Rattle.matching.specs.States.{Progress}
-use Rattle.matching.specs.Windows.{Arranged, bare, blank, window, with_slot}
+use Rattle.matching.specs.Windows.{Arranged, bare, blank, earliest_at, latest_at, slot_at, window, with_slot}
 use Rattle.matching.specs.declared.window.Window.{Window}
-use Rattle.matching.proofs.Blanks.{length-blank, length_same, window-blank, window_same}
+use Rattle.matching.proofs.Blanks.{earliest_same, latest_same, length-blank, length_same, window-blank, window_same}
 
 -- a reading with a slot below k has the same one by r as by s
 abbrev Agree : ℕ → (ℕ → ℕ) → (ℕ → ℕ) → ℕ → Type 0
@@ -53,48 +53,47 @@ agree_all n e l s r t p q (suc k) =
     let below = agree_all n e l s r t p q k in
     (agree_more n e l s r t k p q below.0 below.1, agree_more n e l r s t k q p below.1 below.0)
 
--- a placement has filled all slots
+-- a placement of arranged records has filled all slots
 progress_of : (bs ws : List Window) → Arranged bs → blank ws ≡ bs → Placement ws →
-    Progress (length bs) (λ i. (window bs i).earliest) (λ i. (window bs i).latest) (λ i. (window ws i).slot) (length bs)
+    ((i : ℕ) → i < length ws → 0 < slot_at ws i) × Progress (length bs) (earliest_at bs) (latest_at bs) (slot_at ws) (length bs)
 progress_of bs ws arranged same p =
     let long = length_same ws bs same in
-    let earliest : (i : ℕ) → (window bs i).earliest ≡ (window ws i).earliest = λ i. ap (λ w. w.earliest) (window_same ws bs same i) in
-    let latest : (i : ℕ) → (window bs i).latest ≡ (window ws i).latest = λ i. ap (λ w. w.latest) (window_same ws bs same i) in
-    record {
-      inside = λ i here placed.
-          let in_window = p.assigned.inside i (omega arith) in
-          let last = (arranged.usable i here).last in
-          (omega (arith, in_window.0, earliest i), omega (arith, in_window.1, latest i), omega (arith, in_window.1, latest i, last));
-      filled = λ s from to. let there = p.filled s from (omega arith) in (there.0, omega (arith, there.1), there.2);
-      apart = λ i j here there placed at. p.assigned.apart i j (omega arith) (omega arith) at;
-      soonest = λ i j here there placed later opens.
-          let starts : 0 < (window ws j).slot = omega (arith, (p.assigned.inside j (omega arith)).0, earliest j, (arranged.usable j there).first) in
-          let before : (window ws i).slot < (window ws j).slot = grind arith in
-          let soon = p.soonest i j (omega arith) (omega arith) before (omega (arith, earliest j)) in
-          let a = latest i in
-          let b = latest j in
-          grind arith;
-    }
+    let earliest = earliest_same ws bs same in
+    let latest = latest_same ws bs same in
+    let placed : (i : ℕ) → i < length ws → 0 < slot_at ws i = λ i here.
+    omega (arith, (p.assigned.inside i here).0, earliest i, (arranged.usable i (omega arith)).first) in (
+      placed,
+      record {
+        inside = λ i here some.
+            let in_window = p.assigned.inside i (omega arith) in
+            let last = (arranged.usable i here).last in
+            (omega (arith, in_window.0, earliest i), omega (arith, in_window.1, latest i), omega (arith, in_window.1, latest i, last));
+        filled = λ s from to. let there = p.filled s from (omega arith) in (there.0, omega (arith, there.1), there.2);
+        apart = λ i j here there some at. p.assigned.apart i j (omega arith) (omega arith) at;
+        soonest = λ i j here there some later opens.
+            let starts = placed j (omega arith) in
+            let soon = p.soonest i j (omega arith) (omega arith) (grind arith) (omega (arith, earliest j)) in
+            let a = latest i in
+            let b = latest j in
+            grind arith;
+      },
+    )
 
 -- records with the same windows and the same slot are the same
 same_record : (u v : Window) → bare u ≡ bare v → u.slot ≡ v.slot → u ≡ v
 same_record u v bares slots = ap (λ w. with_slot w u.slot) bares ∙ ap (with_slot v) slots
 
--- the placement of arranged windows is the only one
+-- the placement of arranged records is the only one
 pub only_placement : (ws : List Window) → Arranged (blank ws) → Placement ws → OnlyPlacement ws
 only_placement ws arranged p ws' same q =
     let bs = blank ws in
-    let long = length_same ws' bs same in
-    let here = length-blank ws in
     let n = length bs in
-    let agree = agree_all n _ _ _ _ n (progress_of bs ws' arranged same q) (progress_of bs ws arranged refl p) (suc n) in
+    let here = length-blank ws in
+    let long = length_same ws' bs same in
+    let one = progress_of bs ws' arranged same q in
+    let other = progress_of bs ws arranged refl p in
     ext_get_or (window [] 0) ws' ws (omega arith) (λ i below.
-    let one = (q.assigned.inside i below).0 in
-    let first = (arranged.usable i (omega arith)).first in
-    let at = window_same ws' bs same i in
-    let opens = ap (λ w. w.earliest) at in
-    let last = (q.assigned.inside i below).1 in
-    let ends = ap (λ w. w.latest) at in
-    let upto = (arranged.usable i (omega arith)).last in
-    same_record (window ws' i) (window ws i) (sym at ∙ window-blank ws i)
-    (sym (agree.0 i (omega arith) (omega arith) (omega arith))))
+    let within = one.1.inside i (omega arith) (one.0 i below) in
+    let agree = agree_all n (earliest_at bs) (latest_at bs) (slot_at ws') (slot_at ws) n one.1 other.1 (suc n) in
+    same_record (window ws' i) (window ws i) (sym (window_same ws' bs same i) ∙ window-blank ws i)
+    (sym (agree.0 i (omega arith) (one.0 i below) (omega arith))))

@@ -1,6 +1,6 @@
 -- What the matching answers: a placement of all readings, or why there is none.
 use Rattle.std.specs.Prelude.{◌≡◌, ℕ, ◌+◌, ◌-◌, ◌<◌, ◌≤◌, Bool, ◌&&◌, ◌⊎◌, List, length, count_by, nat_le}
-use Rattle.matching.specs.Windows.{Arranged, blank, window}
+use Rattle.matching.specs.Windows.{Arranged, blank, earliest_at, latest_at, slot_at}
 use Rattle.matching.specs.declared.answer.Crowd.{Crowd}
 use Rattle.matching.specs.declared.answer.Unplaced.{Unplaced}
 use Rattle.matching.specs.declared.answer.Unplaced.TheVariants.{ReadyPlaces, Windows, Crowded}
@@ -9,7 +9,7 @@ use Rattle.matching.specs.declared.window.Window.{Window}
 
 -- an assignment gives each reading a slot inside its window, and no two readings the same
 pub record Assignment (ws : List Window) (slot : ℕ → ℕ) : Type 0 where
-  pub inside : (i : ℕ) → i < length ws → ((window ws i).earliest ≤ slot i) × (slot i ≤ (window ws i).latest)
+  pub inside : (i : ℕ) → i < length ws → (earliest_at ws i ≤ slot i) × (slot i ≤ latest_at ws i)
   pub apart : (i j : ℕ) → i < length ws → j < length ws → slot i ≡ slot j → i ≡ j
 
 -- of readings with these latest slots, i is due before j: a smaller latest, or the same latest and a smaller place
@@ -19,9 +19,9 @@ Due latest i j = (latest i < latest j) ⊎ ((latest i ≡ latest j) × (i < j))
 -- the slots that stand in the records are those of Glover's rule: slot after slot, of the readings that are not
 -- placed yet and whose earliest has come, the one that is due first
 pub record Placement (ws : List Window) : Type 0 where
-  pub assigned : Assignment ws (λ i. (window ws i).slot)
-  pub filled : (s : ℕ) → 1 ≤ s → s ≤ length ws → (i : ℕ) × (i < length ws) × ((window ws i).slot ≡ s)
-  pub soonest : (i j : ℕ) → i < length ws → j < length ws → (window ws i).slot < (window ws j).slot → (window ws j).earliest ≤ (window ws i).slot → Due (λ k. (window ws k).latest) i j
+  pub assigned : Assignment ws (slot_at ws)
+  pub filled : (s : ℕ) → 1 ≤ s → s ≤ length ws → (i : ℕ) × (i < length ws) × (slot_at ws i ≡ s)
+  pub soonest : (i j : ℕ) → i < length ws → j < length ws → slot_at ws i < slot_at ws j → earliest_at ws j ≤ slot_at ws i → Due (latest_at ws) i j
 
 -- other slots of the same windows are no placement
 abbrev pub OnlyPlacement : List Window → Type 0

@@ -3,13 +3,9 @@
 use Rattle.std.specs.Prelude.{◌≡◌, ℕ, ◌+◌, ◌<◌, ◌≤◌, Bool, true, false, cond, ◌⊎◌, List, [], length, take, Some, None, Option, is_none, ◌==◌, ◌≢◌, slice_index_or}
 use Rattle.std.specs.List.{AllByRecursion, count_by, sum_by}
 use Rattle.std.specs.Option.{unwrap_or}
-use Rattle.matching.specs.Windows.{window}
+use Rattle.matching.specs.Windows.{channel_at, earliest_at, window}
 use Rattle.matching.specs.declared.ready.Ready.{Ready}
 use Rattle.matching.specs.declared.window.Window.{Window}
-
--- the channel of the reading at a place
-abbrev pub channel_at : List Window → ℕ → ℕ
-channel_at bs i = (window bs i).channel
 
 -- whether r is a reading of channel c
 abbrev pub of_channel : List Window → ℕ → Ready → Bool
@@ -52,7 +48,7 @@ pub record Starts (bs : List Window) (waiting : List (Option ℕ)) : Type 0 wher
 
 -- the reading at place i is one of channel c, and its earliest is at most t
 abbrev pub Comes : List Window → ℕ → ℕ → ℕ → Type 0
-Comes bs i c t = (i < length bs) × (channel_at bs i ≡ c) × ((window bs i).earliest ≤ t)
+Comes bs i c t = (i < length bs) × (channel_at bs i ≡ c) × (earliest_at bs i ≤ t)
 
 -- the next reading of channel c, if it waits and comes by t
 abbrev pub Coming : List Window → List (Option ℕ) → List Ready → ℕ → ℕ → Option Ready → Type 0

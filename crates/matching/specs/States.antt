@@ -2,8 +2,8 @@
 -- yet. These definitions serve the proofs only; bs are the records without slots.
 use Rattle.std.specs.Prelude.{◌≡◌, ℕ, ◌<◌, ◌≤◌, Bool, true, ◌⊎◌, List, length, count_by, nat_lt}
 use Rattle.matching.specs.Matchings.{Due}
-use Rattle.matching.specs.Queues.{NextUpTo, channel_at}
-use Rattle.matching.specs.Windows.{Arranged, blank, window}
+use Rattle.matching.specs.Queues.{NextUpTo}
+use Rattle.matching.specs.Windows.{Arranged, blank, channel_at, earliest_at, latest_at, slot_at}
 use Rattle.matching.specs.declared.window.Window.{Window}
 
 -- of n readings with earliest e, latest l and slot s, the first t slots are filled
@@ -26,16 +26,16 @@ pub record Filled (bs ws : List Window) (t : ℕ) : Type 0 where
   pub arranged : Arranged bs
   pub same : blank ws ≡ bs
   pub counted : count_by has_slot ws ≡ t
-  pub progress : Progress (length bs) (λ i. (window bs i).earliest) (λ i. (window bs i).latest) (λ i. (window ws i).slot) t
+  pub progress : Progress (length bs) (earliest_at bs) (latest_at bs) (slot_at ws) t
 
 -- the next reading of each channel is its first without a slot
 pub record Cursors (bs ws : List Window) (next : ℕ → ℕ) : Type 0 where
-  pub ahead : (j : ℕ) → j < length bs → (window ws j).slot ≡ 0 → NextUpTo bs next j
-  pub behind : (j : ℕ) → j < length bs → next (channel_at bs j) ≤ j → (window ws j).slot ≡ 0
+  pub ahead : (j : ℕ) → j < length bs → slot_at ws j ≡ 0 → NextUpTo bs next j
+  pub behind : (j : ℕ) → j < length bs → next (channel_at bs j) ≤ j → slot_at ws j ≡ 0
 
 -- the earliest of every ready reading is at most t
 abbrev pub Come : List Window → (ℕ → ℕ) → (ℕ → Bool) → ℕ → Type 0
-Come bs next ready t = (c : ℕ) → ready c ≡ true → (window bs (next c)).earliest ≤ t
+Come bs next ready t = (c : ℕ) → ready c ≡ true → earliest_at bs (next c) ≤ t
 
 -- the first t slots are filled, and the next and the ready readings are among those without a slot
 pub record State (bs ws : List Window) (t : ℕ) (next : ℕ → ℕ) (ready : ℕ → Bool) : Type 0 where
@@ -45,6 +45,6 @@ pub record State (bs ws : List Window) (t : ℕ) (next : ℕ → ℕ) (ready : �
 
 -- a is the last slot up to m whose reading could also stand after m, or 0 where there is none
 pub record LastMovable (ws : List Window) (m a : ℕ) : Type 0 where
-  pub found : (a ≡ 0) ⊎ ((i : ℕ) × (i < length ws) × ((window ws i).slot ≡ a) × (m < (window ws i).latest))
+  pub found : (a ≡ 0) ⊎ ((i : ℕ) × (i < length ws) × (slot_at ws i ≡ a) × (m < latest_at ws i))
   pub before : a ≤ m
-  pub last : (i : ℕ) → i < length ws → m < (window ws i).latest → (window ws i).slot ≤ m → (window ws i).slot ≤ a
+  pub last : (i : ℕ) → i < length ws → m < latest_at ws i → slot_at ws i ≤ m → slot_at ws i ≤ a

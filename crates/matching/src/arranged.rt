@@ -1,6 +1,6 @@
 // The check that windows stand as the matching takes them.
 ghost use Rattle.std.specs.Prelude.{◌≡◌, ◌↔◌, ℕ, ◌+◌, ◌<◌, IsTrue, length};
-ghost use Rattle.matching.specs.Windows.{Arranged, Usable, may_follow, window};
+ghost use Rattle.matching.specs.Windows.{Arranged, Usable, Follows, window};
 
 use crate::window::Window;
 use limits::{CHANNELS, LIMIT};
@@ -23,7 +23,7 @@ fn all_usable(windows: &[Window]) -> bool
 
 // Whether every record but the first may stand right after the one before it.
 fn all_follow(windows: &[Window]) -> bool
-    ensures { IsTrue result ↔ ((i : ℕ) → i + 1 < length windows.now → IsTrue (may_follow (window windows.now i) (window windows.now (i + 1)))) }
+    ensures { IsTrue result ↔ ((i : ℕ) → i + 1 < length windows.now → Follows (window windows.now i) (window windows.now (i + 1))) }
 {
     windows.is_sorted_by(follows)
 }
@@ -40,7 +40,7 @@ fn is_usable(window: &Window, slots: usize) -> bool
 
 // Whether the second record may stand right after the first.
 fn follows(before: &Window, after: &Window) -> bool
-    ensures { result ≡ may_follow before.now after.now }
+    ensures { IsTrue result ↔ Follows before.now after.now }
 {
     before.channel < after.channel
         || (before.channel == after.channel

@@ -1,7 +1,7 @@
 -- The worked examples, place by place.
-use Rattle.std.proofs.Common.{◌≡◌, ℕ, zero, suc, ◌+◌, ◌<◌, ◌≤◌, IsTrue, refl, inr, ⊎_elim, arith}
+use Rattle.std.proofs.Common.{◌≡◌, ℕ, zero, suc, ◌+◌, ◌<◌, ◌≤◌, refl, inr, ⊎_elim, arith}
 use Rattle.matching.specs.Matchings.{IsCrowded, Due}
-use Rattle.matching.specs.Windows.{Usable, may_follow, window}
+use Rattle.matching.specs.Windows.{Follows, Usable, earliest_at, latest_at, slot_at, window}
 use Rattle.matching.proofs.Crowds.{crowd_rules_out}
 use Rattle.matching_cases.specs.Worked.{OneSlotForThree, TwoChannels, placed_in, slot_two}
 
@@ -13,9 +13,9 @@ three_usable (suc (suc zero)) h = record { channel = omega arith; first = omega 
 three_usable (suc (suc (suc i))) h = absurd (omega arith)
 
 -- each is of a greater channel than the one before it
-three_follow : (i : ℕ) → i + 1 < 3 → IsTrue (may_follow (window slot_two i) (window slot_two (i + 1)))
-three_follow zero h = refl
-three_follow (suc zero) h = refl
+three_follow : (i : ℕ) → i + 1 < 3 → Follows (window slot_two i) (window slot_two (i + 1))
+three_follow zero h = record { channel = omega arith; reading = λ same. omega arith; earliest = λ same. omega arith; latest = λ same. omega arith }
+three_follow (suc zero) h = record { channel = omega arith; reading = λ same. omega arith; earliest = λ same. omega arith; latest = λ same. omega arith }
 three_follow (suc (suc i)) h = absurd (omega arith)
 
 -- slot 2 alone is crowded
@@ -34,13 +34,13 @@ one_slot_for_three_lem = record {
 }
 
 -- channel 0 in slot 1 and channel 1 in slot 2 stand inside their windows
-two_inside : (i : ℕ) → i < 2 → ((window (placed_in 1 2) i).earliest ≤ (window (placed_in 1 2) i).slot) × ((window (placed_in 1 2) i).slot ≤ (window (placed_in 1 2) i).latest)
+two_inside : (i : ℕ) → i < 2 → (earliest_at (placed_in 1 2) i ≤ slot_at (placed_in 1 2) i) × (slot_at (placed_in 1 2) i ≤ latest_at (placed_in 1 2) i)
 two_inside zero h = (omega arith, omega arith)
 two_inside (suc zero) h = (omega arith, omega arith)
 two_inside (suc (suc i)) h = absurd (omega arith)
 
 -- in different slots
-two_apart : (i j : ℕ) → i < 2 → j < 2 → (window (placed_in 1 2) i).slot ≡ (window (placed_in 1 2) j).slot → i ≡ j
+two_apart : (i j : ℕ) → i < 2 → j < 2 → slot_at (placed_in 1 2) i ≡ slot_at (placed_in 1 2) j → i ≡ j
 two_apart zero zero h k same = refl
 two_apart zero (suc zero) h k same = absurd (omega arith)
 two_apart zero (suc (suc j)) h k same = absurd (omega arith)
@@ -50,14 +50,14 @@ two_apart (suc zero) (suc (suc j)) h k same = absurd (omega arith)
 two_apart (suc (suc i)) j h k same = absurd (omega arith)
 
 -- which are both filled
-two_filled : (s : ℕ) → 1 ≤ s → s ≤ 2 → (i : ℕ) × (i < 2) × ((window (placed_in 1 2) i).slot ≡ s)
+two_filled : (s : ℕ) → 1 ≤ s → s ≤ 2 → (i : ℕ) × (i < 2) × (slot_at (placed_in 1 2) i ≡ s)
 two_filled zero from to = absurd (omega arith)
 two_filled (suc zero) from to = (0, omega arith, refl)
 two_filled (suc (suc zero)) from to = (1, omega arith, refl)
 two_filled (suc (suc (suc s))) from to = absurd (omega arith)
 
 -- and channel 0, which is placed first, is due first
-two_soonest : (i j : ℕ) → i < 2 → j < 2 → (window (placed_in 1 2) i).slot < (window (placed_in 1 2) j).slot → (window (placed_in 1 2) j).earliest ≤ (window (placed_in 1 2) i).slot → Due (λ k. (window (placed_in 1 2) k).latest) i j
+two_soonest : (i j : ℕ) → i < 2 → j < 2 → slot_at (placed_in 1 2) i < slot_at (placed_in 1 2) j → earliest_at (placed_in 1 2) j ≤ slot_at (placed_in 1 2) i → Due (latest_at (placed_in 1 2)) i j
 two_soonest zero zero h k before opens = absurd (omega arith)
 two_soonest zero (suc zero) h k before opens = inr (refl, omega arith)
 two_soonest zero (suc (suc j)) h k before opens = absurd (omega arith)
