@@ -1,0 +1,45 @@
+-- The windows of all readings as they stand in the places of the matching.
+use Rattle.std.specs.Prelude.{◌≡◌, ℕ, ◌+◌, ◌-◌, ◌<◌, ◌≤◌, List, length, take, sum, MatchOption, Option}
+use Rattle.matching.specs.Windows.{earliest_at, latest_at, window}
+use Rattle.matching.specs.declared.window.Window.{Window}
+use Rattle.penalty.specs.Cost.{Cost}
+use Rattle.windows.specs.Allowed.{FirstBlocked, NoneBlocked}
+use Rattle.windows.specs.Windows.{FirstShut, IsWindow, NoneShut, Reading}
+use Rattle.windows.specs.declared.answer.Unfilled.{Unfilled}
+use Rattle.windows.specs.declared.answer.Unfilled.TheVariants.{Places, Blocked, Shut}
+
+-- the place of reading j of channel c, from 0: behind the readings of all smaller channels and the smaller readings of its own
+abbrev pub place_of : List ℕ → ℕ → ℕ → ℕ
+place_of t c j = sum (take c t) + (j - 1)
+
+-- w is the record of reading j of channel c with its window, and it has no slot yet
+pub record IsRecord (f : Cost) (t : List ℕ) (b c j : ℕ) (w : Window) : Type 0 where
+  pub channel : w.channel ≡ c
+  pub reading : w.reading ≡ j
+  pub window : IsWindow f t b c j (w.earliest, w.latest)
+  pub slot : w.slot ≡ 0
+
+-- ws are the records of all readings, by channel and then reading
+pub record AreWindows (f : Cost) (t : List ℕ) (b : ℕ) (ws : List Window) : Type 0 where
+  pub long : length ws ≡ sum t
+  pub each : (c j : ℕ) → Reading t c j → IsRecord f t b c j (window ws (place_of t c j))
+
+-- what is in the way of windows at bound b in the places ws, and what is left of these: there are too few, and then nothing
+-- has changed; or a moment is blocked; or a window is shut
+abbrev pub IsObstacle : Cost → List ℕ → ℕ → List Window → List Window → Unfilled → Type 0
+IsObstacle f t b ws ws' Places = (length ws < sum t) × (ws' ≡ ws)
+IsObstacle f t b ws ws' (Blocked moment) = (sum t ≤ length ws) × FirstBlocked f t b moment.slot moment.channel
+IsObstacle f t b ws ws' (Shut w) =
+    (sum t ≤ length ws) × NoneBlocked f t b × FirstShut f t b w.channel w.reading (w.earliest, w.latest) × (w.slot ≡ 0)
+
+-- the places ws hold the windows at bound b, and all of them are open
+pub record AreOpen (f : Cost) (t : List ℕ) (b : ℕ) (ws : List Window) : Type 0 where
+  pub unblocked : NoneBlocked f t b
+  pub unshut : NoneShut f t b
+  pub windows : AreWindows f t b ws
+
+-- w is the first record of ws whose window is shut, or there is none
+abbrev pub FirstShutIn : List Window → Option Window → Type 0
+FirstShutIn ws r =
+    MatchOption r ((i : ℕ) → i < length ws → earliest_at ws i ≤ latest_at ws i)
+    (λ w. (i : ℕ) × (i < length ws) × (window ws i ≡ w) × (w.latest < w.earliest) × ((h : ℕ) → h < i → earliest_at ws h ≤ latest_at ws h))

@@ -1,0 +1,89 @@
+// The call that puts the windows of all readings into the places of the matching.
+ghost use Rattle.std.specs.Prelude.{◌≡◌, ◌≤◌, length, sum, take, drop, OnOk, IfErr};
+ghost use Rattle.windows.specs.Allowed.{FirstBlocked, NoneBlocked};
+ghost use Rattle.windows.specs.Filling.{AreOpen, AreWindows, FirstShutIn, IsObstacle};
+ghost use Rattle.windows.specs.Limits.{earlier_of};
+
+use crate::allowed::Counts;
+use crate::answer::{Moment, Unfilled};
+use matching::{CHANNELS, Window};
+use penalty::Penalty;
+use round::Readings;
+
+/// Puts the windows of all readings at a bound into places for the matching, by channel and then reading, without
+/// slots; or shows why they cannot be matched. As many places are written as there are readings, and no others.
+pub fn fill<P: Penalty>(
+    penalty: &P,
+    readings: &Readings,
+    bound: u64,
+    places: &mut [Window],
+) -> Result<(), Unfilled>
+    ensures rest { drop (sum readings.now.by_channel) places.new ≡ drop (sum readings.now.by_channel) places.old }
+    ensures filled { OnOk result ((sum readings.now.by_channel ≤ length places.old) × AreOpen (P.cost penalty.now) readings.now.by_channel bound (take (sum readings.now.by_channel) places.new)) }
+    ensures unfilled { IfErr result (IsObstacle (P.cost penalty.now) readings.now.by_channel bound places.old places.new) }
+{
+    let total = usize::from(readings.total());
+    if places.len() < total {
+        return Err(Unfilled::Places);
+    }
+    fill_channels(penalty, readings, bound, places)?;
+    match first_shut(&places[..total]) {
+        Some(window) => Err(Unfilled::Shut(window)),
+        None => Ok(()),
+    }
+}
+
+// Puts the windows into the places, channel after channel, or finds the first blocked moment.
+fn fill_channels<P: Penalty>(
+    penalty: &P,
+    readings: &Readings,
+    bound: u64,
+    places: &mut [Window],
+) -> Result<(), Moment>
+    requires { sum readings.now.by_channel ≤ length places.old }
+    ensures rest { drop (sum readings.now.by_channel) places.new ≡ drop (sum readings.now.by_channel) places.old }
+    ensures filled { OnOk result (NoneBlocked (P.cost penalty.now) readings.now.by_channel bound × AreWindows (P.cost penalty.now) readings.now.by_channel bound (take (sum readings.now.by_channel) places.new)) }
+    ensures blocked { IfErr result (λ m. FirstBlocked (P.cost penalty.now) readings.now.by_channel bound m.slot m.channel) }
+{
+    let mut blocked = None;
+    let mut start = 0;
+    for channel in 0..CHANNELS as u8 {
+        let counts = Counts {
+            penalty,
+            readings,
+            bound,
+            channel,
+        };
+        let all = counts.all();
+        if all > 0 {
+            match counts.limits() {
+                Ok(limits) => counts.fill(&limits, places, start),
+                Err(slot) => blocked = Some(earlier(blocked, Moment { slot, channel })),
+            }
+        }
+        start += usize::from(all);
+    }
+    match blocked {
+        Some(moment) => Err(moment),
+        None => Ok(()),
+    }
+}
+
+// The earlier of a moment that was found before and the next, which is of a greater channel.
+fn earlier(before: Option<Moment>, next: Moment) -> Moment
+    ensures { result ≡ earlier_of before next }
+{
+    before
+        .filter(|found| found.slot <= next.slot)
+        .unwrap_or(next)
+}
+
+// The first record whose window is shut.
+fn first_shut(windows: &[Window]) -> Option<Window>
+    ensures { FirstShutIn windows.now result }
+{
+    windows
+        .iter()
+        .find(|window| window.latest < window.earliest)
+        .copied()
+}

@@ -1,0 +1,12 @@
+// The windows of the readings at a bound, from a penalty.
+#![tactic(auto)]
+
+mod allowed;
+mod answer;
+mod count_limits;
+mod entry;
+mod finder;
+mod records;
+
+pub use answer::{Moment, Unfilled};
+pub use entry::fill;
