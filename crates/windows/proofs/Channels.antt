@@ -1,11 +1,11 @@
 -- The records of the channels so far, and the first moment of these that is blocked.
-use Rattle.std.proofs.Common.{◌≡◌, ℕ, suc, ◌+◌, ◌-◌, ◌<◌, ◌≤◌, true, false, cond, leb, List, [], None, Some, Option, IfNone, length, get_or, take, drop, sum, sym, refl, ap, ◌∙◌, inl, inr, ⊎_elim, arith}
-use Rattle.std.proofs.lemmas.Bool.{cases_Bool, cases_eq, cases_lt, leb-false, leb-true}
-use Rattle.std.proofs.lemmas.List.{get_or-take, length-take, get_or_past, take_all}
+use Rattle.std.proofs.Common.{◌≡◌, ℕ, ◌+◌, ◌<◌, ◌≤◌, leb, List, [], None, Some, Option, IfNone, length, get_or, take, drop, sum, sym, refl, ap, ◌∙◌, inl, ⊎_elim, arith}
+use Rattle.std.proofs.lemmas.Bool.{cases_Bool, cases_lt, leb-false, leb-true}
+use Rattle.std.proofs.lemmas.List.{get_or-take, length-take}
 use Rattle.matching.specs.Windows.{window}
 use Rattle.matching.specs.declared.window.Window.{Window}
 use Rattle.penalty.specs.Cost.{Cost}
-use Rattle.round.specs.Lists.{Before, Channel, readings}
+use Rattle.round.specs.Lists.{Before, readings}
 use Rattle.round.proofs.Counts.{channel_below}
 use Rattle.windows.specs.Allowed.{Blocked, FirstBlocked, NoneBlocked}
 use Rattle.windows.specs.Filling.{AreWindows, IsRecord, place_of}
@@ -36,10 +36,10 @@ module _ (f : Cost) (t : List ℕ) (b : ℕ) where
     omega arith,
     here,
     λ k c h before p.
-    ⊎_elim
-    (λ less. old k c less p)
-    (λ ge. let e : c ≡ n = omega arith in ⊎_elim (λ less. none k less (rw e at p)) (λ same. omega (arith, same.1)) before)
-    (cases_lt c n),
+        ⊎_elim
+        (λ less. old k c less p)
+        (λ ge. let e : c ≡ n = omega arith in ⊎_elim (λ less. none k less (rw e at p)) (λ same. omega (arith, same.1)) before)
+        (cases_lt c n),
   )
   first_more n s (Some m) here none old =
       ⊎_elim
@@ -47,23 +47,23 @@ module _ (f : Cost) (t : List ℕ) (b : ℕ) where
         omega (arith, old.0),
         old.1,
         λ k c h before p.
-        ⊎_elim
-        (λ less. old.2 k c less before p)
-        (λ ge.
-        let e : c ≡ n = omega arith in
-        ⊎_elim (λ less. none k (omega arith) (rw e at p)) (λ same. omega (arith, old.0, same.1)) before)
-        (cases_lt c n),
+            ⊎_elim
+            (λ less. old.2 k c less before p)
+            (λ ge.
+            let e : c ≡ n = omega arith in
+            ⊎_elim (λ less. none k (omega arith) (rw e at p)) (λ same. omega (arith, old.0, same.1)) before)
+            (cases_lt c n),
       ))
       (λ f. let less = leb-false m.slot s f in rw f (
         omega arith,
         here,
         λ k c h before p.
-        ⊎_elim
-        (λ below.
-        let earlier : Before k c m.slot m.channel = ⊎_elim (λ l. inl (omega arith)) (λ same. inl (omega (arith, same.0))) before in
-        old.2 k c below earlier p)
-        (λ ge. let e : c ≡ n = omega arith in ⊎_elim (λ l. none k l (rw e at p)) (λ same. omega (arith, same.1)) before)
-        (cases_lt c n),
+            ⊎_elim
+            (λ below.
+            let earlier : Before k c m.slot m.channel = ⊎_elim (λ l. inl (omega arith)) (λ same. inl (omega (arith, same.0))) before in
+            old.2 k c below earlier p)
+            (λ ge. let e : c ≡ n = omega arith in ⊎_elim (λ l. none k l (rw e at p)) (λ same. omega (arith, same.1)) before)
+            (cases_lt c n),
       ))
       (cases_Bool (leb m.slot s))
 
@@ -87,7 +87,7 @@ module _ (f : Cost) (t : List ℕ) (b : ℕ) where
         let d = window [] 0 in
         let same = sym (get_or-take start ws' i d inside) ∙ ap (λ (l : List Window). get_or l i d) filled.2 ∙ get_or-take start ws i d inside in
         rw same (before c j less reading))
-        (λ ge. let e : c ≡ n = omega arith in rw e (filled.1 j (rw e at reading)  (omega (arith, (rw e at reading).1))))
+        (λ ge. let e : c ≡ n = omega arith in rw e (filled.1 j (rw e at reading) (omega (arith, (rw e at reading).1))))
         (cases_lt c n)
 
     -- no channel is done before the first

@@ -8,3 +8,4 @@ pub mod Parts
 pub mod Places
 pub mod Searches
 pub mod Shut
+pub mod SteinerYeomans

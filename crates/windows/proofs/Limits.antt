@@ -20,18 +20,18 @@ module _ (f : Cost) (t : List ℕ) (b c : ℕ) where
   fewest_more k n x inside low old j reading =
       let was = old j reading in (
         λ h.
-        ⊎_elim
-        (λ more. (k, omega arith, (inside, x, low, omega arith)))
-        (λ le. let p = was.0 le in (p.0, omega (arith, p.1), p.2))
-        (cases_lt n j),
+            ⊎_elim
+            (λ more. (k, omega arith, (inside, x, low, omega arith)))
+            (λ le. let p = was.0 le in (p.0, omega (arith, p.1), p.2))
+            (cases_lt n j),
         λ p.
-        ⊎_elim
-        (λ before. let le = was.1 (p.0, before, p.2) in omega arith)
-        (λ ge.
-        let here : p.0 ≡ k = omega (arith, p.1) in
-        let same = least_same (Allowed f t b k c) p.2.1 x (subst (λ (i : ℕ). Lowest f t b i c p.2.1) here p.2.2) low in
-        omega (arith, p.2.3))
-        (cases_lt p.0 k),
+            ⊎_elim
+            (λ before. let le = was.1 (p.0, before, p.2) in omega arith)
+            (λ ge.
+            let here : p.0 ≡ k = omega (arith, p.1) in
+            let same = least_same (Allowed f t b k c) p.2.1 x (subst (λ (i : ℕ). Lowest f t b i c p.2.1) here p.2.2) low in
+            omega (arith, p.2.3))
+            (cases_lt p.0 k),
       )
 
   -- no moment comes after slot S
@@ -43,18 +43,18 @@ module _ (f : Cost) (t : List ℕ) (b c : ℕ) where
   most_less k n x inside high old j reading =
       let was = old j reading in (
         λ h.
-        ⊎_elim
-        (λ more. let p = was.0 more in (p.0, omega (arith, p.1), p.2))
-        (λ le. (k, omega arith, (inside, x, high, omega arith)))
-        (cases_lt n j),
+            ⊎_elim
+            (λ more. let p = was.0 more in (p.0, omega (arith, p.1), p.2))
+            (λ le. (k, omega arith, (inside, x, high, omega arith)))
+            (cases_lt n j),
         λ p.
-        ⊎_elim
-        (λ after. let less = was.1 (p.0, omega arith, p.2) in omega arith)
-        (λ le.
-        let here : p.0 ≡ k = omega (arith, p.1) in
-        let same = greatest_same (Allowed f t b k c) p.2.1 x (subst (λ (i : ℕ). Highest f t b i c p.2.1) here p.2.2) high in
-        omega (arith, p.2.3))
-        (cases_lt k p.0),
+            ⊎_elim
+            (λ after. let less = was.1 (p.0, omega arith, p.2) in omega arith)
+            (λ le.
+            let here : p.0 ≡ k = omega (arith, p.1) in
+            let same = greatest_same (Allowed f t b k c) p.2.1 x (subst (λ (i : ℕ). Highest f t b i c p.2.1) here p.2.2) high in
+            omega (arith, p.2.3))
+            (cases_lt k p.0),
       )
 
   -- what is needed before slot k, by n and by the places of ns before k, where no slot before is blocked
@@ -71,10 +71,10 @@ module _ (f : Cost) (t : List ℕ) (b c : ℕ) where
         more,
         λ i h. ⊎_elim (λ less. old.3 i less) (λ ge. subst (λ (x : ℕ). SomeAllowed f t b x c) (omega arith) (needed.0, needed.1.holds)) (cases_lt i k),
         λ i h.
-        ⊎_elim
-        (λ same. rw (same, get_or-set_same ns k m 0 (omega (arith, old.0))) more)
-        (λ other. rw (get_or-set_other ns k i m 0 other) (old.4 i (omega arith)))
-        (cases_eq i k),
+            ⊎_elim
+            (λ same. rw (same, get_or-set_same ns k m 0 (omega (arith, old.0))) more)
+            (λ other. rw (get_or-set_other ns k i m 0 other) (old.4 i (omega arith)))
+            (cases_eq i k),
       )
 
   -- what may stand by slot k and those after it, by n and by the places of ns from k on
@@ -89,10 +89,10 @@ module _ (f : Cost) (t : List ℕ) (b c : ℕ) where
         omega (arith, room.2, old.1),
         less,
         λ i from upto.
-        ⊎_elim
-        (λ same. rw (same, get_or-set_same ns k m 0 (omega (arith, old.0))) less)
-        (λ other. rw (get_or-set_other ns k i m 0 other) (old.3 i (omega arith) upto))
-        (cases_eq i k),
+            ⊎_elim
+            (λ same. rw (same, get_or-set_same ns k m 0 (omega (arith, old.0))) less)
+            (λ other. rw (get_or-set_other ns k i m 0 other) (old.3 i (omega arith) upto))
+            (cases_eq i k),
       )
 
   module _ (ns : List ℕ) where
@@ -113,10 +113,14 @@ module _ (f : Cost) (t : List ℕ) (b c : ℕ) where
           let k = e - 1 in
           let p = (most k (omega (arith, parts.0)) j reading).0 (parts.1 k (omega arith)) in
           let here : p.0 ≡ k = ⊎_elim (λ same. same) (λ other. absurd (none p.0 (omega (arith, p.1)) p.2)) (cases_eq p.0 k) in
-          inl (k, omega arith, record {
-            holds = subst (Forbidden f t b c j) here p.2;
-            greatest = λ m q. ⊎_elim (λ less. omega arith) (λ ge. absurd (none m ge q)) (cases_lt m e);
-          }))
+          inl (
+            k,
+            omega arith,
+            record {
+              holds = subst (Forbidden f t b c j) here p.2;
+              greatest = λ m q. ⊎_elim (λ less. omega arith) (λ ge. absurd (none m ge q)) (cases_lt m e);
+            },
+          ))
           (cases_eq e 0)
 
     module _ (fewest : AreFewest f t b c ns) (j : ℕ) (reading : Reading t c j) where

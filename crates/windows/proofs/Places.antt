@@ -1,13 +1,13 @@
 -- The places of readings, and the records in them.
-use Rattle.std.proofs.Common.{◌≡◌, ℕ, suc, ◌+◌, ◌-◌, ◌<◌, ◌≤◌, ◌⊎◌, List, [], ◌∷◌, length, get_or, take, drop, set, sum, sym, ap, ◌∙◌, ⊎_elim, arith}
+use Rattle.std.proofs.Common.{◌≡◌, ℕ, suc, ◌+◌, ◌-◌, ◌<◌, ◌≤◌, List, [], ◌∷◌, length, take, drop, set, sum, ap, ◌∙◌, ⊎_elim, arith}
 use Rattle.std.proofs.lemmas.Bool.{cases_eq, cases_lt}
-use Rattle.std.proofs.lemmas.List.{drop-set-lt, get_or-set_other, get_or-set_same, get_or-take, get_or_past, length-set, length-take, take-set-le, take-take, take_all}
+use Rattle.std.proofs.lemmas.List.{drop-set-lt, get_or-set_other, get_or-set_same, get_or_past, length-set, take-set-le, take-take, take_all}
 use Rattle.std.proofs.lemmas.List.Sums.{sum_by-cons, sum_by-take-le, sum_by_more}
 use Rattle.matching.specs.Windows.{window}
 use Rattle.matching.specs.declared.window.Window.{Window}
 use Rattle.penalty.specs.Cost.{Cost}
 use Rattle.round.specs.Lists.{Before, readings}
-use Rattle.windows.specs.Filling.{AreWindows, IsRecord, place_of}
+use Rattle.windows.specs.Filling.{IsRecord, place_of}
 use Rattle.windows.specs.Windows.{Reading}
 
 -- the readings of a channel come after those of the channels before it and before all others
@@ -79,12 +79,12 @@ module _ (f : Cost) (t : List ℕ) (b c start : ℕ) (old : List Window) where
   filled_more m ws w less room here before = (
     length-set ws (start + m) w ∙ before.0,
     λ j reading upto.
-    ⊎_elim
-    (λ same.
-    let at : start + (j - 1) ≡ start + m = omega arith in
-    rw (at, same) (rw (get_or-set_same ws (start + m) w (window [] 0) (omega (arith, before.0))) here))
-    (λ other. rw (get_or-set_other ws (start + m) (start + (j - 1)) w (window [] 0) (λ e. other (omega (arith, reading.0)))) (before.1 j reading (omega arith)))
-    (cases_eq j (m + 1)),
+        ⊎_elim
+        (λ same.
+        let at : start + (j - 1) ≡ start + m = omega arith in
+        rw (at, same) (rw (get_or-set_same ws (start + m) w (window [] 0) (omega (arith, before.0))) here))
+        (λ other. rw (get_or-set_other ws (start + m) (start + (j - 1)) w (window [] 0) (λ e. other (omega (arith, reading.0)))) (before.1 j reading (omega arith)))
+        (cases_eq j (m + 1)),
     take-set-le start ws (start + m) w (omega arith) ∙ before.2,
     λ n past. drop-set-lt n ws (start + m) w (omega arith) ∙ before.3 n past,
   )

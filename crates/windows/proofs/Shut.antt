@@ -1,10 +1,10 @@
 -- The first record that is shut is that of the first shut window.
-use Rattle.std.proofs.Common.{◌≡◌, ℕ, ◌<◌, ◌≤◌, List, Some, None, length, sum, sym, subst, arith}
+use Rattle.std.proofs.Common.{◌≡◌, ℕ, ◌<◌, List, Some, None, subst, arith}
 use Rattle.matching.specs.Windows.{earliest_at, latest_at, window}
 use Rattle.matching.specs.declared.window.Window.{Window}
 use Rattle.penalty.specs.Cost.{Cost}
 use Rattle.windows.specs.Filling.{AreWindows, FirstShutIn, IsRecord, place_of}
-use Rattle.windows.specs.Windows.{FirstShut, IsShut, IsWindow, NoneShut, Reading}
+use Rattle.windows.specs.Windows.{FirstShut, IsShut, NoneShut}
 use Rattle.windows.proofs.Ends.{earliest_rises, latest_rises}
 use Rattle.windows.proofs.Places.{place_inside, place_rises, reading_at}
 

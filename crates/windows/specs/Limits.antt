@@ -7,13 +7,13 @@ use Rattle.windows.specs.declared.answer.Moment.{Moment}
 use Rattle.windows.specs.Allowed.{Allowed, Blocked, Highest, Lowest}
 use Rattle.windows.specs.Windows.{Forbidden, Needed, Reading}
 
--- the smallest allowed count from m on, or nothing where there is none
-abbrev pub LowestFrom : Cost → List ℕ → ℕ → ℕ → ℕ → ℕ → Option ℕ → Type 0
-LowestFrom f t b k c m r = MatchOption r ((x : ℕ) → m ≤ x → Allowed f t b k c x → ⊥) (λ y. (m ≤ y) × Allowed f t b k c y × ((x : ℕ) → m ≤ x → x < y → Allowed f t b k c x → ⊥))
+-- the smallest allowed count above m, or nothing where there is none
+abbrev pub LowestAbove : Cost → List ℕ → ℕ → ℕ → ℕ → ℕ → Option ℕ → Type 0
+LowestAbove f t b k c m r = MatchOption r ((x : ℕ) → m < x → Allowed f t b k c x → ⊥) (λ y. (m < y) × Allowed f t b k c y × ((x : ℕ) → m < x → x < y → Allowed f t b k c x → ⊥))
 
--- the greatest allowed count up to m, or nothing where there is none
-abbrev pub HighestTo : Cost → List ℕ → ℕ → ℕ → ℕ → ℕ → Option ℕ → Type 0
-HighestTo f t b k c m r = MatchOption r ((x : ℕ) → x ≤ m → Allowed f t b k c x → ⊥) (λ y. (y ≤ m) × Allowed f t b k c y × ((x : ℕ) → y < x → x ≤ m → Allowed f t b k c x → ⊥))
+-- the greatest allowed count below m, or nothing where there is none
+abbrev pub HighestBelow : Cost → List ℕ → ℕ → ℕ → ℕ → ℕ → Option ℕ → Type 0
+HighestBelow f t b k c m r = MatchOption r ((x : ℕ) → x < m → Allowed f t b k c x → ⊥) (λ y. (y < m) × Allowed f t b k c y × ((x : ℕ) → y < x → x < m → Allowed f t b k c x → ⊥))
 
 -- readings 1 to n of channel c are those that some moment before k needs
 abbrev pub Fewest : Cost → List ℕ → ℕ → ℕ → ℕ → ℕ → Type 0

@@ -1,8 +1,8 @@
 // Which counts of a channel a bound allows.
-ghost use Rattle.std.specs.Prelude.{◌≡◌, ◌↔◌, ◌≤◌, IsTrue};
+ghost use Rattle.std.specs.Prelude.{◌≡◌, ◌≤◌, MatchBool};
 ghost use Rattle.round.specs.Lists.{readings as d_of};
 ghost use Rattle.windows.specs.Allowed.{Allowed};
-ghost use Rattle.windows.specs.Limits.{HighestTo, LowestFrom};
+ghost use Rattle.windows.specs.Limits.{HighestBelow, LowestAbove};
 
 use penalty::{Penalty, Question};
 use round::Readings;
@@ -25,9 +25,9 @@ impl<'a, P: Penalty> Counts<'a, P> {
     }
 
     // Whether a count is allowed after a slot.
-    fn allows(&self, slot: u16, count: u16) -> bool
+    pub(crate) fn allows(&self, slot: u16, count: u16) -> bool
         requires { count ≤ d_of self.now.readings.now.by_channel self.now.channel }
-        ensures { IsTrue result ↔ Allowed (P.cost self.now.penalty.now) self.now.readings.now.by_channel self.now.bound slot self.now.channel count }
+        ensures { MatchBool result (Allowed (P.cost self.now.penalty.now) self.now.readings.now.by_channel self.now.bound slot self.now.channel count) (Allowed (P.cost self.now.penalty.now) self.now.readings.now.by_channel self.now.bound slot self.now.channel count → ⊥) }
     {
         let cost = self.penalty.cost(Question {
             slots: self.readings.total(),
@@ -39,27 +39,29 @@ impl<'a, P: Penalty> Counts<'a, P> {
         cost <= self.bound
     }
 
-    // The smallest allowed count from `from` on.
-    pub(crate) fn lowest_from(&self, slot: u16, from: u16) -> Option<u16>
-        ensures { LowestFrom (P.cost self.now.penalty.now) self.now.readings.now.by_channel self.now.bound slot self.now.channel from result }
+    // The smallest allowed count above `count`.
+    // A `for` and no `find`, as below.
+    pub(crate) fn lowest_above(&self, slot: u16, count: u16) -> Option<u16>
+        requires { count ≤ d_of self.now.readings.now.by_channel self.now.channel }
+        ensures { LowestAbove (P.cost self.now.penalty.now) self.now.readings.now.by_channel self.now.bound slot self.now.channel count result }
     {
-        // A `for` and no `find`: what `find` gives of numbers that count down has no lemma, and both searches have one form.
-        for count in from..=self.all() {
-            if self.allows(slot, count) {
-                return Some(count);
+        for above in count + 1..=self.all() {
+            if self.allows(slot, above) {
+                return Some(above);
             }
         }
         None
     }
 
-    // The greatest allowed count up to `to`.
-    pub(crate) fn highest_to(&self, slot: u16, to: u16) -> Option<u16>
-        requires { to ≤ d_of self.now.readings.now.by_channel self.now.channel }
-        ensures { HighestTo (P.cost self.now.penalty.now) self.now.readings.now.by_channel self.now.bound slot self.now.channel to result }
+    // The greatest allowed count below `count`.
+    // A `for` and no `find`: what it gives of numbers that count down has no lemma.
+    pub(crate) fn highest_below(&self, slot: u16, count: u16) -> Option<u16>
+        requires { count ≤ d_of self.now.readings.now.by_channel self.now.channel }
+        ensures { HighestBelow (P.cost self.now.penalty.now) self.now.readings.now.by_channel self.now.bound slot self.now.channel count result }
     {
-        for count in (0..=to).rev() {
-            if self.allows(slot, count) {
-                return Some(count);
+        for below in (0..count).rev() {
+            if self.allows(slot, below) {
+                return Some(below);
             }
         }
         None

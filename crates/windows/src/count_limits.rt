@@ -47,16 +47,20 @@ impl<'a, P: Penalty> Counts<'a, P> {
         Ok(fewest)
     }
 
-    // How many readings are needed by a slot where `before` are needed before it, unless the slot is blocked.
-    #[tactic(auto, using(crate::proofs::Searches::needed_above, crate::proofs::Searches::needed_here, crate::proofs::Searches::needed_none))]
+    // How many readings are needed by a slot where `before` are needed before it, unless the slot is blocked. The count
+    // before is the first that is asked about, and is the answer where it is allowed.
+    #[tactic(auto, using(crate::proofs::Searches::needed_same, crate::proofs::Searches::needed_more, crate::proofs::Searches::needed_less, crate::proofs::Searches::needed_none))]
     fn needed_by(&self, slot: u16, before: u16) -> Option<u16>
         requires { before ≤ d_of self.now.readings.now.by_channel self.now.channel }
         ensures { NeededBy (P.cost self.now.penalty.now) self.now.readings.now.by_channel self.now.bound slot self.now.channel before result }
     {
-        if let Some(count) = self.lowest_from(slot, before) {
+        if self.allows(slot, before) {
+            return Some(before);
+        }
+        if let Some(count) = self.lowest_above(slot, before) {
             return Some(count);
         }
-        self.highest_to(slot, before)?;
+        self.highest_below(slot, before)?;
         Some(before)
     }
 
@@ -80,6 +84,9 @@ impl<'a, P: Penalty> Counts<'a, P> {
         requires some { SomeAllowed (P.cost self.now.penalty.now) self.now.readings.now.by_channel self.now.bound slot self.now.channel }
         ensures { RoomBy (P.cost self.now.penalty.now) self.now.readings.now.by_channel self.now.bound slot self.now.channel after result }
     {
-        self.highest_to(slot, after).unwrap_or(after)
+        if self.allows(slot, after) {
+            return after;
+        }
+        self.highest_below(slot, after).unwrap_or(after)
     }
 }

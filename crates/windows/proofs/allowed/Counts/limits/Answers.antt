@@ -1,5 +1,4 @@
 -- What is not blocked has an allowed count, and what has none is blocked.
-use Rattle.std.proofs.Common.{ℕ}
 use Rattle.std.proofs.lemmas.Result.{err_from_is_err_and}
 use Rattle.windows.proofs.allowed.Counts.limits.Goals as goal
 

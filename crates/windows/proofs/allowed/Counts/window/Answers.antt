@@ -21,5 +21,5 @@ returns g c =
     let needed = rw c.total-slots.ensures at c.below-2.ensures in (
       rw c.max-earliest.ensures (earliest_is f t own.bound own.channel c.args.limits.now.most c.requires.limits.most c.args.reading c.requires.reading c.below.result early),
       rw (c.min-latest.ensures, c.total-slots.ensures)
-      (latest_is f t own.bound own.channel c.args.limits.now.fewest c.requires.limits.fewest c.args.reading c.requires.reading c.below-2.result needed),
+          (latest_is f t own.bound own.channel c.args.limits.now.fewest c.requires.limits.fewest c.args.reading c.requires.reading c.below-2.result needed),
     )

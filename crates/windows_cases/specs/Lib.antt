@@ -1,0 +1,2 @@
+-- The penalty of these tests.
+pub mod Centred
