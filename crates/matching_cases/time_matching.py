@@ -5,15 +5,17 @@ The program is run on many copies of the case with 64 ready places, and on as ma
 the same bytes are read. The difference is the matching and the line that is made of its slots.
 """
 
-import subprocess
-import time
+import sys
 from pathlib import Path
+
+sys.path.insert(0, str(Path(__file__).parents[2] / "tools"))
+from timing import least_seconds
 
 PROGRAM = Path(__file__).parent / "out" / "matching_cases"
 CHANNELS, READINGS = 64, 64
 SLOTS = CHANNELS * READINGS
 BOUND = SLOTS - 1
-COPIES, RUNS = 100, 5
+COPIES = 100
 
 
 def case(ready):
@@ -28,16 +30,8 @@ def case(ready):
 
 
 def seconds(ready):
-    """The least time of a few runs on all copies."""
-    given = case(ready) * COPIES
-    least = None
-    for _ in range(RUNS):
-        start = time.perf_counter()
-        out = subprocess.run([PROGRAM], input=given, stdout=subprocess.PIPE, check=True).stdout
-        took = time.perf_counter() - start
-        least = took if least is None else min(least, took)
-    assert out.startswith(b"PLACED" if ready >= 64 else b"REFUSED READY")
-    return least
+    """The time for all copies."""
+    return least_seconds(PROGRAM, case(ready) * COPIES, b"PLACED" if ready >= 64 else b"REFUSED READY")
 
 
 matched, refused = seconds(64), seconds(63)

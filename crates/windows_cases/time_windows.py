@@ -1,17 +1,19 @@
 #!/usr/bin/env python3
-"""Times the windows of 64 channels of 64 readings in 4,096 slots, by the program `windows_cases`.
+"""Times the windows of tables of 4,096 readings, by the program `windows_cases`.
 
 The program is run on many copies of the case with places for all windows, and on as many with none, which are refused
 after the same bytes are read; both print the same line of the formulas. The difference is the windows and the line that
 is made of them.
 """
 
-import subprocess
-import time
+import sys
 from pathlib import Path
 
+sys.path.insert(0, str(Path(__file__).parents[2] / "tools"))
+from timing import least_seconds
+
 PROGRAM = Path(__file__).parent / "out" / "windows_cases"
-COPIES, RUNS = 40, 5
+COPIES = 40
 TABLES = {"64 times 64": [64] * 64, "4,000 and 96": [4000, 96], "skewed": [1] * 32 + [2] * 16 + [16] * 15 + [3776]}
 
 
@@ -23,16 +25,8 @@ def case(readings, bound, places):
 
 
 def seconds(readings, bound, places):
-    """The least time of a few runs on all copies."""
-    given = case(readings, bound, places) * COPIES
-    least = None
-    for _ in range(RUNS):
-        start = time.perf_counter()
-        out = subprocess.run([PROGRAM], input=given, stdout=subprocess.PIPE, check=True).stdout
-        took = time.perf_counter() - start
-        least = took if least is None else min(least, took)
-    assert out.startswith(b"WINDOWS" if places else b"REFUSED PLACES"), out[:20]
-    return least
+    """The time for all copies."""
+    return least_seconds(PROGRAM, case(readings, bound, places) * COPIES, b"WINDOWS" if places else b"REFUSED PLACES")
 
 
 for name, readings in TABLES.items():

@@ -47,6 +47,6 @@ pub record LargestCost (f : Cost) (t l : List ℕ) (n : ℕ) : Type 0 where
   pub within : Within f t l n
   pub attained : (k : ℕ) × (c : ℕ) × Moment t k c × (cost_at f t l k c ≡ n)
 
--- moments go by k, and at the same k by channel
+-- pairs go by the first number, and at the same by the second: moments by k and then channel, readings by channel and then number
 abbrev pub Before : ℕ → ℕ → ℕ → ℕ → Type 0
 Before j b k c = (j < k) ⊎ ((j ≡ k) × (b < c))
