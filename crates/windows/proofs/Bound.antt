@@ -1,7 +1,7 @@
 -- What windows say of lists: where no moment is blocked, a complete list is within the bound exactly when every reading
 -- stands in its window. Counts say where a reading stands: reading j of a channel is among the first k slots of a list
 -- exactly when j ≤ count k.
-use Rattle.std.proofs.Common.{◌≡◌, ℕ, ◌+◌, ◌-◌, ◌<◌, ◌≤◌, cond, eqb, List, take, sum, ap, ◌∙◌, ⊎_elim, arith}
+use Rattle.std.proofs.Common.{◌≡◌, ℕ, ◌+◌, ◌-◌, ◌<◌, ◌≤◌, ◌↔◌, cond, eqb, List, take, sum, ap, ◌∙◌, ⊎_elim, arith}
 use Rattle.std.proofs.lemmas.Bool.{cases_lt}
 use Rattle.std.proofs.lemmas.List.{take_all, take-take}
 use Rattle.std.proofs.lemmas.List.Sums.{sum_by-take-le}
@@ -103,3 +103,7 @@ module _ (t l : List ℕ) (whole : Complete t l) where
         (λ ge. ge)
         (cases_lt high.0 x) in
         (allowed_between f t b valley k c low.0 x high.0 from upto low.1.holds high.1.holds).1
+
+    -- so with no blocked moment a complete list is within the bound exactly when its readings stand in their windows
+    pub within_windows : Valley f → NoneBlocked f t b → Within f t l b ↔ InWindows f t b l
+    within_windows valley none = (within_stands, stands_within valley none)

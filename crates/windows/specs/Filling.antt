@@ -1,6 +1,6 @@
 -- The windows of all readings as they stand in the places of the matching.
-use Rattle.std.specs.Prelude.{◌≡◌, ℕ, ◌+◌, ◌-◌, ◌<◌, ◌≤◌, List, length, take, sum, MatchOption, Option}
-use Rattle.matching.specs.Windows.{earliest_at, latest_at, window}
+use Rattle.std.specs.Prelude.{◌≡◌, ℕ, ◌+◌, ◌-◌, ◌<◌, ◌≤◌, List, length, take, sum}
+use Rattle.matching.specs.Windows.{window}
 use Rattle.matching.specs.declared.window.Window.{Window}
 use Rattle.penalty.specs.Cost.{Cost}
 use Rattle.windows.specs.Allowed.{FirstBlocked, NoneBlocked}
@@ -37,9 +37,3 @@ pub record AreOpen (f : Cost) (t : List ℕ) (b : ℕ) (ws : List Window) : Type
   pub unblocked : NoneBlocked f t b
   pub unshut : NoneShut f t b
   pub windows : AreWindows f t b ws
-
--- w is the first record of ws whose window is shut, or there is none
-abbrev pub FirstShutIn : List Window → Option Window → Type 0
-FirstShutIn ws r =
-    MatchOption r ((i : ℕ) → i < length ws → earliest_at ws i ≤ latest_at ws i)
-    (λ w. (i : ℕ) × (i < length ws) × (window ws i ≡ w) × (w.latest < w.earliest) × ((h : ℕ) → h < i → earliest_at ws h ≤ latest_at ws h))

@@ -1,7 +1,9 @@
--- What a search over the counts of a channel finds, and how many of its readings are needed by a slot and how many may
--- stand before it. These definitions serve the proofs only.
-use Rattle.std.specs.Prelude.{◌≡◌, ℕ, ◌+◌, ◌<◌, ◌≤◌, ◌↔◌, min, max, cond, nat_le, Some, None, List, sum, MatchOption, Option, slice_index}
+-- What the helpers answer: the searches over the counts of a channel, how many of its readings are needed by a slot and how
+-- many may stand by it, the first blocked moment so far, the first record that is shut. They serve the proofs only.
+use Rattle.std.specs.Prelude.{◌≡◌, ℕ, ◌+◌, ◌<◌, ◌≤◌, ◌↔◌, min, max, cond, nat_le, Some, None, List, length, sum, MatchOption, Option, slice_index}
 use Rattle.penalty.specs.Cost.{Cost}
+use Rattle.matching.specs.Windows.{earliest_at, latest_at, window}
+use Rattle.matching.specs.declared.window.Window.{Window}
 use Rattle.round.specs.Lists.{Before}
 use Rattle.windows.specs.declared.answer.Moment.{Moment}
 use Rattle.windows.specs.Allowed.{Allowed, Blocked, Highest, Lowest}
@@ -66,3 +68,9 @@ FirstBelow f t b n r =
 abbrev pub earlier_of : Option Moment → Moment → Moment
 earlier_of None next = next
 earlier_of (Some m) next = cond (nat_le m.slot next.slot) m next
+
+-- w is the first record of ws whose window is shut, or there is none
+abbrev pub FirstShutIn : List Window → Option Window → Type 0
+FirstShutIn ws r =
+    MatchOption r ((i : ℕ) → i < length ws → earliest_at ws i ≤ latest_at ws i)
+    (λ w. (i : ℕ) × (i < length ws) × (window ws i ≡ w) × (w.latest < w.earliest) × ((h : ℕ) → h < i → earliest_at ws h ≤ latest_at ws h))

@@ -1,4 +1,5 @@
--- The window of a reading at a bound b, for a table t under a penalty f. A window says where no moment is blocked which slots a reading may stand in.
+-- The window of a reading at a bound b, for a table t under a penalty f. Where no moment is blocked, it says which slots
+-- the reading may stand in.
 use Rattle.std.specs.Prelude.{◌≡◌, ℕ, ◌+◌, ◌<◌, ◌≤◌, ◌⊎◌, List, sum}
 use Rattle.penalty.specs.Cost.{Cost}
 use Rattle.round.specs.Lists.{Before, readings}
@@ -29,7 +30,7 @@ Latest f t b c j l = IsLeast (Needed f t b c j) l ⊎ ((l ≡ sum t) × ((k : �
 abbrev pub IsWindow : Cost → List ℕ → ℕ → ℕ → ℕ → ℕ × ℕ → Type 0
 IsWindow f t b c j w = Earliest f t b c j w.0 × Latest f t b c j w.1
 
--- a window is shut when its earliest slot is after its latest
+-- a window is shut when its earliest slot is after its latest, and else open
 abbrev pub IsShut : Cost → List ℕ → ℕ → ℕ → ℕ → ℕ × ℕ → Type 0
 IsShut f t b c j w = Reading t c j × IsWindow f t b c j w × (w.1 < w.0)
 

@@ -40,7 +40,7 @@ impl<'a, P: Penalty> Counts<'a, P> {
     }
 
     // The smallest allowed count above `count`.
-    // A `for` and no `find`, as below.
+    // A `for`, here and below: what `find` gives of numbers that count down did not prove (docs/DECISIONS.md).
     pub(crate) fn lowest_above(&self, slot: u16, count: u16) -> Option<u16>
         requires { count ≤ d_of self.now.readings.now.by_channel self.now.channel }
         ensures { LowestAbove (P.cost self.now.penalty.now) self.now.readings.now.by_channel self.now.bound slot self.now.channel count result }
@@ -54,7 +54,6 @@ impl<'a, P: Penalty> Counts<'a, P> {
     }
 
     // The greatest allowed count below `count`.
-    // A `for` and no `find`: what it gives of numbers that count down has no lemma.
     pub(crate) fn highest_below(&self, slot: u16, count: u16) -> Option<u16>
         requires { count ≤ d_of self.now.readings.now.by_channel self.now.channel }
         ensures { HighestBelow (P.cost self.now.penalty.now) self.now.readings.now.by_channel self.now.bound slot self.now.channel count result }

@@ -7,7 +7,7 @@ ghost use Rattle.windows.specs.Limits.{AreFewest, AreLimits, AreMost, NeededBy, 
 use crate::allowed::Counts;
 use penalty::{LIMIT, Penalty};
 
-// How many slots a round can have, and the moment before the first.
+// How many moments a channel can have: one after each slot, and one before the first.
 pub(crate) const MOMENTS: usize = LIMIT as usize + 1;
 
 // For each slot how many readings of a channel are needed by it, and how many may stand by it.

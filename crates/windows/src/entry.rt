@@ -1,8 +1,8 @@
 // The call that puts the windows of all readings into the places of the matching.
 ghost use Rattle.std.specs.Prelude.{◌≡◌, ◌≤◌, length, sum, take, drop, OnOk, IfErr};
 ghost use Rattle.windows.specs.Allowed.{FirstBlocked, NoneBlocked};
-ghost use Rattle.windows.specs.Filling.{AreOpen, AreWindows, FirstShutIn, IsObstacle};
-ghost use Rattle.windows.specs.Limits.{earlier_of};
+ghost use Rattle.windows.specs.Filling.{AreOpen, AreWindows, IsObstacle};
+ghost use Rattle.windows.specs.Limits.{FirstShutIn, earlier_of};
 
 use crate::allowed::Counts;
 use crate::answer::{Moment, Unfilled};

@@ -1,5 +1,5 @@
 -- The distance of a count from the centre of its slot, and that it keeps the laws.
-use Rattle.std.specs.Prelude.{ℕ, ◌+◌, ◌-◌, ◌≤◌, List, min, slice_index}
+use Rattle.std.specs.Prelude.{ℕ, ◌+◌, ◌-◌, List, min, slice_index}
 use Rattle.std.proofs.Common.{arith}
 use Rattle.penalty.specs.Bottoms.{PlainValley}
 use Rattle.penalty.specs.Cost.{Capped, Cost, bottom, inside, top}
