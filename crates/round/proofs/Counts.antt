@@ -1,6 +1,6 @@
 -- Counting the channels of a list, slot by slot.
 use Rattle.std.proofs.Common.{◌≡◌, ℕ, suc, ◌+◌, ◌<◌, ◌≤◌, false, cond, eqb, List, [], ◌∷◌, length, get_or, take, set, replicate, sum, sym, refl, ap, ◌∙◌, ⊎_elim, arith}
-use Rattle.std.proofs.lemmas.List.{get_or-replicate, get_or_past, get_or-set_same, get_or-set_other, length-replicate, length-take}
+use Rattle.std.proofs.lemmas.List.{get_or-replicate, get_or_past, get_or-set_same, get_or-set_other, length-replicate, length-take, take_all, take-take}
 use Rattle.std.proofs.lemmas.List.Sums.{count_by_more_yes, count_by_more_no, count_by-le-length, sum_by-cons, sum_by-take-le}
 use Rattle.std.proofs.lemmas.Bool.{cases_eq, cases_lt, eq-eqb, ne_eqb}
 use Rattle.round.specs.Lists.{readings, Channel, Complete, times, count}
@@ -72,3 +72,19 @@ some_channel [] h = absurd (omega arith)
 some_channel (x ∷ xs) h =
     let step = sum_by-cons (λ y. y) x xs in
     ⊎_elim (λ p. (0, p)) (λ z. let rest = some_channel xs (omega arith) in (suc rest.0, rest.1)) (cases_lt 0 x)
+
+-- a count never falls from slot to slot
+pub count_rises : (l : List ℕ) (c j k : ℕ) → j ≤ k → count l c j ≤ count l c k
+count_rises l c j k h =
+    let part = sum_by-take-le (λ x. cond (eqb c x) 1 0) (take k l) j in
+    let same = ap (times c) (take-take j k l h) in
+    omega arith
+
+module _ (t l : List ℕ) (whole : Complete t l) where
+  -- no count of a complete list passes the readings of its channel
+  pub count_most : (c k : ℕ) → count l c k ≤ readings t c
+  count_most c k = omega (arith, sum_by-take-le (λ x. cond (eqb c x) 1 0) l k, whole.each c)
+
+  -- after the last slot of a complete list each channel has all its readings
+  pub count_end : (c k : ℕ) → sum t ≤ k → count l c k ≡ readings t c
+  count_end c k past = ap (times c) (take_all k l (omega (arith, whole.full))) ∙ whole.each c

@@ -34,9 +34,13 @@ pub record Complete (t l : List ℕ) : Type 0 where
 abbrev pub Moment : List ℕ → ℕ → ℕ → Type 0
 Moment t k c = (k ≤ sum t) × Channel t c
 
--- a moment costs what the penalty gives at its count
+-- the cost of a count x of channel c after k slots: what the penalty gives to S, c, d(c), x and k
+abbrev pub cost_of : Cost → List ℕ → ℕ → ℕ → ℕ → ℕ
+cost_of f t k c x = f (sum t) c (readings t c) x k
+
+-- a moment costs what its count does
 abbrev pub cost_at : Cost → List ℕ → List ℕ → ℕ → ℕ → ℕ
-cost_at f t l k c = f (sum t) c (readings t c) (count l c k) k
+cost_at f t l k c = cost_of f t k c (count l c k)
 
 -- a list is within b when no moment costs more
 abbrev pub Within : Cost → List ℕ → List ℕ → ℕ → Type 0

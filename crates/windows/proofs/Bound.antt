@@ -1,12 +1,11 @@
 -- What windows say of lists: where no moment is blocked, a complete list is within the bound exactly when every reading
 -- stands in its window. Counts say where a reading stands: reading j of a channel is among the first k slots of a list
 -- exactly when j ≤ count k.
-use Rattle.std.proofs.Common.{◌≡◌, ℕ, ◌+◌, ◌-◌, ◌<◌, ◌≤◌, ◌↔◌, cond, eqb, List, take, sum, ap, ◌∙◌, ⊎_elim, arith}
+use Rattle.std.proofs.Common.{◌≡◌, ℕ, ◌+◌, ◌-◌, ◌<◌, ◌≤◌, ◌↔◌, List, ap, ⊎_elim, arith}
 use Rattle.std.proofs.lemmas.Bool.{cases_lt}
-use Rattle.std.proofs.lemmas.List.{take_all, take-take}
-use Rattle.std.proofs.lemmas.List.Sums.{sum_by-take-le}
 use Rattle.penalty.specs.Cost.{Cost, Valley}
-use Rattle.round.specs.Lists.{Complete, Moment, Within, count, readings, times}
+use Rattle.round.specs.Lists.{Complete, Moment, Within, count}
+use Rattle.round.proofs.Counts.{count_end, count_most, count_rises}
 use Rattle.windows.specs.Allowed.{Allowed, Blocked, NoneBlocked}
 use Rattle.windows.specs.Windows.{IsWindow, Reading}
 use Rattle.windows.proofs.Ends.{after_forbidden, allowed_between, highest_exists, lowest_exists, some_allowed, upto_needed, window_exists}
@@ -19,26 +18,11 @@ Stands l c j w = (count l c (w.0 - 1) < j) × (j ≤ count l c w.1)
 abbrev pub InWindows : Cost → List ℕ → ℕ → List ℕ → Type 0
 InWindows f t b l = (c j : ℕ) (w : ℕ × ℕ) → Reading t c j → IsWindow f t b c j w → Stands l c j w
 
--- a count never falls from slot to slot
-count_rises : (l : List ℕ) (c j k : ℕ) → j ≤ k → count l c j ≤ count l c k
-count_rises l c j k h =
-    let part = sum_by-take-le (λ x. cond (eqb c x) 1 0) (take k l) j in
-    let same = ap (times c) (take-take j k l h) in
-    omega arith
-
 module _ (t l : List ℕ) (whole : Complete t l) where
-  -- no count passes the readings of its channel
-  count_most : (c k : ℕ) → count l c k ≤ readings t c
-  count_most c k = omega (arith, sum_by-take-le (λ x. cond (eqb c x) 1 0) l k, whole.each c)
-
-  -- after the last slot each channel has all its readings
-  count_end : (c k : ℕ) → sum t ≤ k → count l c k ≡ readings t c
-  count_end c k past = ap (times c) (take_all k l (omega (arith, whole.full))) ∙ whole.each c
-
   module _ (f : Cost) (b : ℕ) where
     -- the counts of a list within the bound are allowed
     allowed_counts : Within f t l b → (k c : ℕ) → Moment t k c → Allowed f t b k c (count l c k)
-    allowed_counts within k c moment = (count_most c k, within k c moment)
+    allowed_counts within k c moment = (count_most t l whole c k, within k c moment)
 
     -- no complete list is within the bound where a moment is blocked
     pub blocked_rules_out : (k c : ℕ) → Blocked f t b k c → Within f t l b → ⊥
@@ -64,7 +48,7 @@ module _ (t l : List ℕ) (whole : Complete t l) where
         let at = allowed_counts within w.1 c (first.holds.0, omega (arith, reading.0, reading.1)) in
         let low = first.holds.2.least (count l c w.1) at in
         omega (arith, first.holds.3))
-        (λ last. omega (arith, count_end c w.1 (omega (arith, last.0)), reading.1))
+        (λ last. omega (arith, count_end t l whole c w.1 (omega (arith, last.0)), reading.1))
         window.1 in
         (after, by)
 
@@ -78,10 +62,10 @@ module _ (t l : List ℕ) (whole : Complete t l) where
     pub stands_within : Valley f → NoneBlocked f t b → InWindows f t b l → Within f t l b
     stands_within valley none stands k c moment =
         let x = count l c k in
-        let some = some_allowed f t b none k c moment in
+        let some = some_allowed f t b k c moment (none k c) in
         let low = lowest_exists f t b k c some.0 some.1 in
         let high = highest_exists f t b k c some.0 some.1 in
-        let most = count_most c k in
+        let most = count_most t l whole c k in
         let from : low.0 ≤ x =
         ⊎_elim
         (λ less.

@@ -1,18 +1,40 @@
 -- The records of the channels so far, and the first moment of these that is blocked.
-use Rattle.std.proofs.Common.{◌≡◌, ℕ, ◌+◌, ◌<◌, ◌≤◌, leb, List, [], None, Some, Option, IfNone, length, get_or, take, drop, sum, sym, refl, ap, ◌∙◌, inl, ⊎_elim, arith}
+use Rattle.std.proofs.Common.{◌≡◌, ℕ, ◌+◌, ◌<◌, ◌≤◌, leb, List, [], None, Some, Option, IfNone, MatchOption, length, get_or, take, drop, sum, sym, refl, ap, ◌∙◌, inl, ⊎_elim, arith}
 use Rattle.std.proofs.lemmas.Bool.{cases_Bool, cases_lt, leb-false, leb-true}
 use Rattle.std.proofs.lemmas.List.{get_or-take, length-take}
+use Rattle.std.proofs.lemmas.List.Sums.{sum_by_more}
+use Rattle.matching.proofs.Queueing.{drop_later}
 use Rattle.matching.specs.Windows.{window}
 use Rattle.matching.specs.declared.window.Window.{Window}
 use Rattle.penalty.specs.Cost.{Cost}
 use Rattle.round.specs.Lists.{Before, readings}
 use Rattle.round.proofs.Counts.{channel_below}
 use Rattle.windows.specs.Allowed.{Blocked, FirstBlocked, NoneBlocked}
+use Rattle.windows.specs.Extremes.{IsLeast}
 use Rattle.windows.specs.Filling.{AreWindows, IsRecord, place_of}
-use Rattle.windows.specs.Limits.{FirstBelow, earlier_of}
+use Rattle.windows.specs.CountLimits.{earlier_of}
 use Rattle.windows.specs.Windows.{Reading}
 use Rattle.windows.specs.declared.answer.Moment.{Moment}
-use Rattle.windows.proofs.Places.{FilledTo, place_before, place_inside, sum_more, within_sum}
+use Rattle.windows.proofs.Places.{FilledTo, place_before, place_inside, within_sum}
+
+-- the first blocked moment of the channels below n, if there is one
+abbrev FirstBelow : Cost → List ℕ → ℕ → ℕ → Option Moment → Type 0
+FirstBelow f t b n r =
+    MatchOption r ((k c : ℕ) → c < n → Blocked f t b k c → ⊥)
+    (λ m. (m.channel < n) × Blocked f t b m.slot m.channel × ((k c : ℕ) → c < n → Before k c m.slot m.channel → Blocked f t b k c → ⊥))
+
+-- the records of all readings of the channels below n are in ws
+abbrev pub RecordsBelow : Cost → List ℕ → ℕ → ℕ → List Window → Type 0
+RecordsBelow f t b n ws = (c j : ℕ) → c < n → Reading t c j → IsRecord f t b c j (window ws (place_of t c j))
+
+-- channels below n are done: the next one starts at `start`, o is their first blocked moment, and the places have their
+-- records where there is none; ws are the places, and `old` what they were before
+pub record ChannelsDone (f : Cost) (t : List ℕ) (b : ℕ) (old : List Window) (n start : ℕ) (o : Option Moment) (ws : List Window) : Type 0 where
+  pub place : start ≡ sum (take n t)
+  pub first : FirstBelow f t b n o
+  pub records : IfNone o (RecordsBelow f t b n ws)
+  pub long : length ws ≡ length old
+  pub rest : drop (sum t) ws ≡ drop (sum t) old
 
 -- what follows where there is no value follows in the end
 IfNone_map : {X : Type 0} {P Q : Type 0} (o : Option X) → (P → Q) → IfNone o P → IfNone o Q
@@ -30,18 +52,18 @@ module _ (f : Cost) (t : List ℕ) (b : ℕ) where
   )
 
   -- the first blocked moment of channel n is after slot s
-  first_more : (n s : ℕ) (o : Option Moment) → Blocked f t b s n → ((k : ℕ) → k < s → Blocked f t b k n → ⊥) → FirstBelow f t b n o →
+  first_more : (n s : ℕ) (o : Option Moment) → IsLeast (λ k. Blocked f t b k n) s → FirstBelow f t b n o →
       FirstBelow f t b (n + 1) (Some (earlier_of o (record { slot = s; channel = n })))
-  first_more n s None here none old = (
+  first_more n s None first old = (
     omega arith,
-    here,
+    first.holds,
     λ k c h before p.
         ⊎_elim
         (λ less. old k c less p)
-        (λ ge. let e : c ≡ n = omega arith in ⊎_elim (λ less. none k less (rw e at p)) (λ same. omega (arith, same.1)) before)
+        (λ ge. let e : c ≡ n = omega arith in ⊎_elim (λ less. omega (arith, first.least k (rw e at p))) (λ same. omega (arith, same.1)) before)
         (cases_lt c n),
   )
-  first_more n s (Some m) here none old =
+  first_more n s (Some m) first old =
       ⊎_elim
       (λ t. let le = leb-true m.slot s t in rw t (
         omega (arith, old.0),
@@ -51,33 +73,25 @@ module _ (f : Cost) (t : List ℕ) (b : ℕ) where
             (λ less. old.2 k c less before p)
             (λ ge.
             let e : c ≡ n = omega arith in
-            ⊎_elim (λ less. none k (omega arith) (rw e at p)) (λ same. omega (arith, old.0, same.1)) before)
+            ⊎_elim (λ less. omega (arith, first.least k (rw e at p))) (λ same. omega (arith, old.0, same.1)) before)
             (cases_lt c n),
       ))
       (λ f. let less = leb-false m.slot s f in rw f (
         omega arith,
-        here,
+        first.holds,
         λ k c h before p.
             ⊎_elim
             (λ below.
             let earlier : Before k c m.slot m.channel = ⊎_elim (λ l. inl (omega arith)) (λ same. inl (omega (arith, same.0))) before in
             old.2 k c below earlier p)
-            (λ ge. let e : c ≡ n = omega arith in ⊎_elim (λ l. none k l (rw e at p)) (λ same. omega (arith, same.1)) before)
+            (λ ge. let e : c ≡ n = omega arith in ⊎_elim (λ l. omega (arith, first.least k (rw e at p))) (λ same. omega (arith, same.1)) before)
             (cases_lt c n),
       ))
       (cases_Bool (leb m.slot s))
 
-  -- the records of all readings of the channels below n are in ws
-  abbrev pub RecordsBelow : ℕ → List Window → Type 0
-  RecordsBelow n ws = (c j : ℕ) → c < n → Reading t c j → IsRecord f t b c j (window ws (place_of t c j))
-
   module _ (old : List Window) where
-    -- channels below n are done: the next one starts at `start`, o is their first blocked moment, and ws has their records where there is none
-    abbrev pub ChannelsDone : ℕ → ℕ → Option Moment → List Window → Type 0
-    ChannelsDone n start o ws = (start ≡ sum (take n t)) × FirstBelow f t b n o × IfNone o (RecordsBelow n ws) × (length ws ≡ length old) × (drop (sum t) ws ≡ drop (sum t) old)
-
     -- the records of one channel more are in ws'
-    records_more : (n : ℕ) (ws ws' : List Window) → FilledTo f t b n (sum (take n t)) ws (readings t n) ws' → RecordsBelow n ws → RecordsBelow (n + 1) ws'
+    records_more : (n : ℕ) (ws ws' : List Window) → FilledTo f t b n (sum (take n t)) ws (readings t n) ws' → RecordsBelow f t b n ws → RecordsBelow f t b (n + 1) ws'
     records_more n ws ws' filled before c j h reading =
         ⊎_elim
         (λ less.
@@ -85,52 +99,60 @@ module _ (f : Cost) (t : List ℕ) (b : ℕ) where
         let start = sum (take n t) in
         let i = place_of t c j in
         let d = window [] 0 in
-        let same = sym (get_or-take start ws' i d inside) ∙ ap (λ (l : List Window). get_or l i d) filled.2 ∙ get_or-take start ws i d inside in
+        let same = sym (get_or-take start ws' i d inside) ∙ ap (λ (l : List Window). get_or l i d) filled.before ∙ get_or-take start ws i d inside in
         rw same (before c j less reading))
-        (λ ge. let e : c ≡ n = omega arith in rw e (filled.1 j (rw e at reading) (omega (arith, (rw e at reading).1))))
+        (λ ge. let e : c ≡ n = omega arith in rw e (filled.records j (rw e at reading) (omega (arith, (rw e at reading).1))))
         (cases_lt c n)
 
     -- no channel is done before the first
-    pub channels_none : ChannelsDone 0 0 None old
-    channels_none = (refl, λ k c h. absurd (omega arith), λ c j h. absurd (omega arith), refl, refl)
+    pub channels_none : ChannelsDone f t b old 0 0 None old
+    channels_none = record { place = refl; first = λ k c h. absurd (omega arith); records = λ c j h. absurd (omega arith); long = refl; rest = refl }
 
-    module _ (n start : ℕ) (o : Option Moment) (ws : List Window) (inside : n < length t) (done : ChannelsDone n start o ws) where
+    module _ (n start : ℕ) (o : Option Moment) (ws : List Window) (inside : n < length t) (done : ChannelsDone f t b old n start o ws) where
       -- one channel more, of which no moment is blocked
-      pub channels_open : (ws' : List Window) → ((k : ℕ) → Blocked f t b k n → ⊥) → FilledTo f t b n start ws (readings t n) ws' →
-          ChannelsDone (n + 1) (start + readings t n) o ws'
-      channels_open ws' clear filled = (
-        omega (arith, sum_more t n inside, done.0),
-        first_same n o clear done.1,
-        IfNone_map o (records_more n ws ws' (rw done.0 at filled)) done.2,
-        filled.0 ∙ done.3,
-        filled.3 (sum t) (omega (arith, within_sum t n, done.0)) ∙ done.4,
-      )
+      pub channels_unblocked : (ws' : List Window) → ((k : ℕ) → Blocked f t b k n → ⊥) → FilledTo f t b n start ws (readings t n) ws' →
+          ChannelsDone f t b old (n + 1) (start + readings t n) o ws'
+      channels_unblocked ws' clear filled = record {
+        place = omega (arith, sum_by_more (λ x. x) t n 0 inside, done.place);
+        first = first_same n o clear done.first;
+        records = IfNone_map o (records_more n ws ws' (rw done.place at filled)) done.records;
+        long = filled.long ∙ done.long;
+        rest = drop_later ws ws' (start + readings t n) (sum t) (omega (arith, within_sum t n, done.place)) filled.after ∙ done.rest;
+      }
 
       -- one channel more, which has no readings
-      pub channels_empty : readings t n ≡ 0 → ChannelsDone (n + 1) (start + readings t n) o ws
-      channels_empty none = channels_open ws (λ k p. omega (arith, p.moment.1)) (refl, λ j reading. absurd (omega (arith, reading.0, reading.1)), refl, λ m h. refl)
+      pub channels_empty : readings t n ≡ 0 → ChannelsDone f t b old (n + 1) (start + readings t n) o ws
+      channels_empty none =
+          channels_unblocked ws (λ k p. omega (arith, p.moment.1))
+          (record { long = refl; records = λ j reading. absurd (omega (arith, reading.0, reading.1)); before = refl; after = refl })
 
       -- one channel more, whose first blocked moment is after slot s
-      pub channels_blocked : (s : ℕ) → Blocked f t b s n → ((k : ℕ) → k < s → Blocked f t b k n → ⊥) →
-          ChannelsDone (n + 1) (start + readings t n) (Some (earlier_of o (record { slot = s; channel = n }))) ws
-      channels_blocked s here none = (omega (arith, sum_more t n inside, done.0), first_more n s o here none done.1, tt, done.3, done.4)
+      pub channels_blocked : (s : ℕ) → IsLeast (λ k. Blocked f t b k n) s →
+          ChannelsDone f t b old (n + 1) (start + readings t n) (Some (earlier_of o (record { slot = s; channel = n }))) ws
+      channels_blocked s first = record {
+        place = omega (arith, sum_by_more (λ x. x) t n 0 inside, done.place);
+        first = first_more n s o first done.first;
+        records = tt;
+        long = done.long;
+        rest = done.rest;
+      }
 
     module _ (n start : ℕ) (room : sum t ≤ length old) (all : length t ≤ n) where
       -- where all channels are done and none is blocked, the windows are there
-      pub channels_all : (ws : List Window) → ChannelsDone n start None ws → NoneBlocked f t b × AreWindows f t b (take (sum t) ws)
+      pub channels_all : (ws : List Window) → ChannelsDone f t b old n start None ws → NoneBlocked f t b × AreWindows f t b (take (sum t) ws)
       channels_all ws done = (
-        λ k c p. done.1 k c (omega (arith, channel_below t c p.moment.1)) p,
+        λ k c p. done.first k c (omega (arith, channel_below t c p.moment.1)) p,
         record {
-          long = omega (arith, length-take (sum t) ws, done.3);
+          long = omega (arith, length-take (sum t) ws, done.long);
           each = λ c j reading.
               let below = channel_below t c (omega (arith, reading.0, reading.1)) in
-              rw (get_or-take (sum t) ws (place_of t c j) (window [] 0) (place_inside t c j reading)) (done.2 c j (omega arith) reading);
+              rw (get_or-take (sum t) ws (place_of t c j) (window [] 0) (place_inside t c j reading)) (done.records c j (omega arith) reading);
         },
       )
 
       -- where one is blocked, it is the first of all
-      pub channels_first : (m : Moment) (ws : List Window) → ChannelsDone n start (Some m) ws → FirstBlocked f t b m.slot m.channel
+      pub channels_first : (m : Moment) (ws : List Window) → ChannelsDone f t b old n start (Some m) ws → FirstBlocked f t b m.slot m.channel
       channels_first m ws done = record {
-        blocked = done.1.1;
-        first = λ k c before p. done.1.2 k c (omega (arith, channel_below t c p.moment.1)) before p;
+        blocked = done.first.1;
+        first = λ k c before p. done.first.2 k c (omega (arith, channel_below t c p.moment.1)) before p;
       }

@@ -3,7 +3,7 @@ use Rattle.std.proofs.Common.{ℕ, suc, ◌+◌, ◌<◌, ◌≤◌, ◌⊎◌, 
 use Rattle.std.proofs.lemmas.Bool.{cases_lt}
 use Rattle.penalty.specs.Cost.{Cost, Valley}
 use Rattle.round.specs.Lists.{Channel, Moment, readings}
-use Rattle.windows.specs.Allowed.{Allowed, Highest, Lowest, NoneBlocked}
+use Rattle.windows.specs.Allowed.{Allowed, Blocked, Highest, Lowest, NoneBlocked}
 use Rattle.windows.specs.Windows.{Earliest, Forbidden, IsWindow, Latest, Needed}
 use Rattle.windows.proofs.Extremes.{Decided, greatest_or_none, greatest_same, least_below, least_exists, least_same}
 
@@ -37,10 +37,10 @@ module _ (f : Cost) (t : List ℕ) (b : ℕ) where
       (greatest_or_none (Allowed f t b k c) (allowed_decided k c) (readings t c) (λ n p. p.0))
 
   -- a moment that is not blocked has an allowed count
-  pub some_allowed : NoneBlocked f t b → (k c : ℕ) → Moment t k c → (x : ℕ) × Allowed f t b k c x
-  some_allowed none k c moment =
+  pub some_allowed : (k c : ℕ) → Moment t k c → (Blocked f t b k c → ⊥) → (x : ℕ) × Allowed f t b k c x
+  some_allowed k c moment unblocked =
       ⊎_elim (λ found. (found.0, found.1.holds))
-      (λ no. absurd (none k c (record { moment = moment; none = λ x a. no x (omega (arith, a.0)) a })))
+      (λ no. absurd (unblocked (record { moment = moment; none = λ x a. no x (omega (arith, a.0)) a })))
       (least_below (Allowed f t b k c) (allowed_decided k c) (suc (readings t c)))
 
   module _ (c : ℕ) where
@@ -83,7 +83,7 @@ module _ (f : Cost) (t : List ℕ) (b : ℕ) where
       forbidden_decided j k =
           ⊎_elim
           (λ inside.
-          let some = some_allowed none k c (inside, here) in
+          let some = some_allowed k c (inside, here) (none k c) in
           let high = highest_exists k c some.0 some.1 in
           ⊎_elim
           (λ less. inl (inside, high.0, high.1, less))
@@ -97,7 +97,7 @@ module _ (f : Cost) (t : List ℕ) (b : ℕ) where
       needed_decided j k =
           ⊎_elim
           (λ inside.
-          let some = some_allowed none k c (inside, here) in
+          let some = some_allowed k c (inside, here) (none k c) in
           let low = lowest_exists k c some.0 some.1 in
           ⊎_elim
           (λ less. inr (λ p. let same = least_same (Allowed f t b k c) p.1 low.0 p.2 low.1 in omega (arith, p.3)))

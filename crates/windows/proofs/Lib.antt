@@ -1,9 +1,10 @@
 -- The lemmas of this crate.
+pub mod Arranged
 pub mod Bound
 pub mod Channels
 pub mod Ends
 pub mod Extremes
-pub mod Limits
+pub mod CountLimits
 pub mod Parts
 pub mod Places
 pub mod Searches

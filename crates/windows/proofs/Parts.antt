@@ -1,7 +1,7 @@
 -- Rows of numbers in which those below a number come first, up to a place.
 use Rattle.std.proofs.Common.{◌≡◌, ℕ, ◌+◌, ◌<◌, ◌≤◌, true, false, ltb, List, get_or, take, length, ◌∙◌, arith}
 use Rattle.std.specs.List.Sorted.{IsPartitionedBy, IsPartitionPoint}
-use Rattle.windows.specs.Limits.{Parted, PartsAt}
+use Rattle.windows.specs.CountLimits.{Parted, PartsAt}
 use Rattle.std.proofs.lemmas.Bool.{lt-ltb, ltb-false, ltb-true}
 use Rattle.std.proofs.lemmas.List.{get_or_default, get_or-take, length-take}
 

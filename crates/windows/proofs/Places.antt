@@ -40,10 +40,6 @@ place_inside t c j reading = omega (arith, within_sum t c, reading.0, reading.1)
 pub place_before : (t : List ℕ) (c j n : ℕ) → Reading t c j → c < n → place_of t c j < sum (take n t)
 place_before t c j n reading less = omega (arith, through_channel t c n less, reading.0, reading.1)
 
--- the readings of one channel more
-pub sum_more : (t : List ℕ) (n : ℕ) → n < length t → sum (take (n + 1) t) ≡ sum (take n t) + readings t n
-sum_more t n inside = sum_by_more (λ x. x) t n 0 inside
-
 -- the places go by channel, and in a channel by reading
 pub place_rises : (t : List ℕ) (a i c j : ℕ) → Reading t a i → Reading t c j → Before a i c j → place_of t a i < place_of t c j
 place_rises t a i c j before after earlier =
@@ -65,26 +61,27 @@ reading_at (x ∷ xs) i h =
     (suc rest.0, rest.1, rest.2, omega (arith, rest.2.0, rest.3)))
     (cases_lt i x)
 
-module _ (f : Cost) (t : List ℕ) (b c start : ℕ) (old : List Window) where
-  -- the records of readings 1 to m of channel c lie from `start` on in ws, which is `old` elsewhere
-  abbrev pub FilledTo : ℕ → List Window → Type 0
-  FilledTo m ws = (length ws ≡ length old)
-      × ((j : ℕ) → Reading t c j → j ≤ m → IsRecord f t b c j (window ws (start + (j - 1))))
-      × (take start ws ≡ take start old)
-      × ((n : ℕ) → start + readings t c ≤ n → drop n ws ≡ drop n old)
+-- the records of readings 1 to m of channel c lie from `start` on in ws, which is `old` before and after its readings
+pub record FilledTo (f : Cost) (t : List ℕ) (b c start : ℕ) (old : List Window) (m : ℕ) (ws : List Window) : Type 0 where
+  pub long : length ws ≡ length old
+  pub records : (j : ℕ) → Reading t c j → j ≤ m → IsRecord f t b c j (window ws (start + (j - 1)))
+  pub before : take start ws ≡ take start old
+  pub after : drop (start + readings t c) ws ≡ drop (start + readings t c) old
 
-  -- one record more
-  pub filled_more : (m : ℕ) (ws : List Window) (w : Window) → m < readings t c → start + readings t c ≤ length old → IsRecord f t b c (m + 1) w →
-      FilledTo m ws → FilledTo (m + 1) (set ws (start + m) w)
-  filled_more m ws w less room here before = (
-    length-set ws (start + m) w ∙ before.0,
-    λ j reading upto.
-        ⊎_elim
-        (λ same.
-        let at : start + (j - 1) ≡ start + m = omega arith in
-        rw (at, same) (rw (get_or-set_same ws (start + m) w (window [] 0) (omega (arith, before.0))) here))
-        (λ other. rw (get_or-set_other ws (start + m) (start + (j - 1)) w (window [] 0) (λ e. other (omega (arith, reading.0)))) (before.1 j reading (omega arith)))
-        (cases_eq j (m + 1)),
-    take-set-le start ws (start + m) w (omega arith) ∙ before.2,
-    λ n past. drop-set-lt n ws (start + m) w (omega arith) ∙ before.3 n past,
-  )
+-- one record more
+pub filled_more : (f : Cost) (t : List ℕ) (b c start : ℕ) (old : List Window) (m : ℕ) (ws : List Window) (w : Window) → m < readings t c →
+    start + readings t c ≤ length old → IsRecord f t b c (m + 1) w → FilledTo f t b c start old m ws → FilledTo f t b c start old (m + 1) (set ws (start + m) w)
+filled_more f t b c start old m ws w less room here filled = record {
+  long = length-set ws (start + m) w ∙ filled.long;
+  records = λ j reading upto.
+      ⊎_elim
+      (λ same.
+      let at : start + (j - 1) ≡ start + m = omega arith in
+      rw (at, same) (rw (get_or-set_same ws (start + m) w (window [] 0) (omega (arith, filled.long))) here))
+      (λ other.
+      rw (get_or-set_other ws (start + m) (start + (j - 1)) w (window [] 0) (λ e. other (omega (arith, reading.0))))
+      (filled.records j reading (omega arith)))
+      (cases_eq j (m + 1));
+  before = take-set-le start ws (start + m) w (omega arith) ∙ filled.before;
+  after = drop-set-lt (start + readings t c) ws (start + m) w (omega arith) ∙ filled.after;
+}

@@ -4,7 +4,7 @@ use Rattle.matching.specs.Windows.{earliest_at, latest_at, window}
 use Rattle.matching.specs.declared.window.Window.{Window}
 use Rattle.penalty.specs.Cost.{Cost}
 use Rattle.windows.specs.Filling.{AreWindows, IsRecord, place_of}
-use Rattle.windows.specs.Limits.{FirstShutIn}
+use Rattle.windows.specs.CountLimits.{FirstShutIn}
 use Rattle.windows.specs.Windows.{FirstShut, IsShut, NoneShut}
 use Rattle.windows.proofs.Ends.{earliest_rises, latest_rises}
 use Rattle.windows.proofs.Places.{place_inside, place_rises, reading_at}

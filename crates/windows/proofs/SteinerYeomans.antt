@@ -1,5 +1,5 @@
 -- Steiner and Yeomans' formulas give the windows under the absolute deviation.
-use Rattle.std.proofs.Common.{◌≡◌, ℕ, zero, suc, ◌+◌, ◌-◌, ◌*◌, ◌/◌, ◌<◌, ◌≤◌, min, true, ◌⊎◌, List, sum, inl, inr, refl, ⊎_elim, arith, mul-le-mul_left, mul-le-mul_right, mul-add, mul-one, mul_comm, suc-mul, div-lt_iff_lt-mul}
+use Rattle.std.proofs.Common.{◌≡◌, ℕ, zero, suc, ◌+◌, ◌-◌, ◌*◌, ◌/◌, ◌<◌, ◌≤◌, min, true, ◌⊎◌, List, sum, inl, inr, refl, ⊎_elim, arith, mul-le-mul_left, mul-le-mul_right, lt_of_mul-lt-mul_right, mul-add, mul-one, mul_comm, suc-mul, div-lt_iff_lt-mul}
 use Rattle.std.specs.Int.{div_ceil}
 use Rattle.std.proofs.lemmas.Bool.{cases_lt}
 use Rattle.std.proofs.lemmas.Bool.Decides.{nat_tests}
@@ -15,10 +15,6 @@ use Rattle.windows.specs.Formulas.{earliest, latest}
 use Rattle.windows.specs.Windows.{Earliest, Forbidden, IsWindow, Latest, Needed, Reading}
 use Rattle.windows.proofs.Ends.{highest_exists, lowest_exists, some_allowed}
 
--- what a factor above 0 keeps less is less
-less_of_times : (m n d : ℕ) → m * d < n * d → m < n
-less_of_times m n d h = ⊎_elim (λ less. less) (λ ge. let le = mul-le-mul_right d ge in absurd (omega arith)) (cases_lt m n)
-
 -- what a quotient that is rounded up says of the number that is divided
 rounded_up : (q n d : ℕ) → n ≤ q * d → q * d < n + d → ((q ≡ 0) × (n ≡ 0)) ⊎ ((k : ℕ) × (q ≡ k + 1) × (k * d < n) × (n ≤ q * d))
 rounded_up zero n d above below = inl (refl, omega (arith, above))
@@ -30,7 +26,7 @@ ceil_upto S d j b some within =
     let times = div_ceil_times (j * S - b) d some in
     let room = mul-le-mul_right S within in
     let comm = mul_comm S d in
-    ⊎_elim (λ none. omega (arith, none.0)) (λ up. let less = less_of_times up.0 S d (omega (arith, up.2)) in omega (arith, up.1)) (rounded_up (div_ceil (j * S - b) d) (j * S - b) d times.0 times.1)
+    ⊎_elim (λ none. omega (arith, none.0)) (λ up. let less : up.0 < S = lt_of_mul-lt-mul_right d (omega (arith, up.2)) in omega (arith, up.1)) (rounded_up (div_ceil (j * S - b) d) (j * S - b) d times.0 times.1)
 
 module _ (t : List ℕ) (sound : Sound t) (b c : ℕ) (here : Channel t c) where
   -- on the domain the cost is the size of q
@@ -71,7 +67,7 @@ module _ (t : List ℕ) (sound : Sound t) (b c : ℕ) (here : Channel t c) where
     forbidden_from : (k : ℕ) → k ≤ sum t → k * readings t c + b < j * sum t → Forbidden absolute t b c j k
     forbidden_from k upto past =
         let S = sum t in
-        let some = some_allowed absolute t b none k c (upto, here) in
+        let some = some_allowed absolute t b k c (upto, here) (none k c) in
         let high = highest_exists absolute t b k c some.0 some.1 in
         let was = allowed_to k high.0 upto high.1.holds in
         let comm = mul_comm S j in
@@ -94,15 +90,15 @@ module _ (t : List ℕ) (sound : Sound t) (b c : ℕ) (here : Channel t c) where
     needed_from : (k : ℕ) → k ≤ sum t → (j - 1) * sum t + b < k * readings t c → Needed absolute t b c j k
     needed_from k upto past =
         let S = sum t in
-        let some = some_allowed absolute t b none k c (upto, here) in
+        let some = some_allowed absolute t b k c (upto, here) (none k c) in
         let low = lowest_exists absolute t b k c some.0 some.1 in
         let was = allowed_to k low.0 upto low.1.holds in
         let comm = mul_comm S (j - 1) in
         (upto, low.0, low.1, ⊎_elim (λ less. let le = mul-le-mul_left S (let h : low.0 ≤ j - 1 = omega arith in h) in absurd (omega (arith, was.1))) (λ ge. ge) (cases_lt low.0 j))
 
     -- the earliest slot
-    earliest_is : Earliest absolute t b c j (earliest (sum t) (readings t c) j b)
-    earliest_is =
+    earliest_by_formula : Earliest absolute t b c j (earliest (sum t) (readings t c) j b)
+    earliest_by_formula =
         let S = sum t in
         let d = readings t c in
         let q = div_ceil (j * S - b) d in
@@ -117,14 +113,14 @@ module _ (t : List ℕ) (sound : Sound t) (b c : ℕ) (here : Channel t c) where
           omega (arith, some.1),
           record {
             holds = forbidden_from k (omega (arith, some.1)) (omega (arith, some.2));
-            greatest = λ m p. let less = less_of_times m q d (omega (arith, forbidden_to m p, some.3)) in omega (arith, some.1);
+            greatest = λ m p. let less : m < q = lt_of_mul-lt-mul_right d (omega (arith, forbidden_to m p, some.3)) in omega (arith, some.1);
           },
         ))
         (rounded_up q (j * S - b) d times.0 times.1)
 
     -- the latest slot
-    latest_is : Latest absolute t b c j (latest (sum t) (readings t c) j b)
-    latest_is =
+    latest_by_formula : Latest absolute t b c j (latest (sum t) (readings t c) j b)
+    latest_by_formula =
         let S = sum t in
         let d = readings t c in
         let n = (j - 1) * S + b in
@@ -142,4 +138,4 @@ module _ (t : List ℕ) (sound : Sound t) (b c : ℕ) (here : Channel t c) where
 
     -- so both formulas give the window
     pub formulas_give : IsWindow absolute t b c j (earliest (sum t) (readings t c) j b, latest (sum t) (readings t c) j b)
-    formulas_give = (earliest_is, latest_is)
+    formulas_give = (earliest_by_formula, latest_by_formula)

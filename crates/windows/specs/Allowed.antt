@@ -1,12 +1,12 @@
 -- Which counts a bound b allows at a moment of a table t under a penalty f, and which moments are blocked.
-use Rattle.std.specs.Prelude.{ℕ, ◌≤◌, List, sum}
+use Rattle.std.specs.Prelude.{ℕ, ◌≤◌, List}
 use Rattle.penalty.specs.Cost.{Cost}
-use Rattle.round.specs.Lists.{Before, Moment, readings}
+use Rattle.round.specs.Lists.{Before, Moment, cost_of, readings}
 use Rattle.windows.specs.Extremes.{IsGreatest, IsLeast}
 
 -- x is a count that channel c may have after slot k: from 0 to d(c), and it costs at most b
 abbrev pub Allowed : Cost → List ℕ → ℕ → ℕ → ℕ → ℕ → Type 0
-Allowed f t b k c x = (x ≤ readings t c) × (f (sum t) c (readings t c) x k ≤ b)
+Allowed f t b k c x = (x ≤ readings t c) × (cost_of f t k c x ≤ b)
 
 -- lo(c,k): the smallest count that is allowed
 abbrev pub Lowest : Cost → List ℕ → ℕ → ℕ → ℕ → ℕ → Type 0

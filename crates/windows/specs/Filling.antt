@@ -26,10 +26,10 @@ pub record AreWindows (f : Cost) (t : List ℕ) (b : ℕ) (ws : List Window) : T
 
 -- what is in the way of windows at bound b in the places ws, and what is left of these: there are too few, and then nothing
 -- has changed; or a moment is blocked; or a window is shut
-abbrev pub IsObstacle : Cost → List ℕ → ℕ → List Window → List Window → Unfilled → Type 0
-IsObstacle f t b ws ws' Places = (length ws < sum t) × (ws' ≡ ws)
-IsObstacle f t b ws ws' (Blocked moment) = (sum t ≤ length ws) × FirstBlocked f t b moment.slot moment.channel
-IsObstacle f t b ws ws' (Shut w) =
+abbrev pub IsReason : Cost → List ℕ → ℕ → List Window → List Window → Unfilled → Type 0
+IsReason f t b ws ws' Places = (length ws < sum t) × (ws' ≡ ws)
+IsReason f t b ws ws' (Blocked moment) = (sum t ≤ length ws) × FirstBlocked f t b moment.slot moment.channel
+IsReason f t b ws ws' (Shut w) =
     (sum t ≤ length ws) × NoneBlocked f t b × FirstShut f t b w.channel w.reading (w.earliest, w.latest) × (w.slot ≡ 0)
 
 -- the places ws hold the windows at bound b, and all of them are open

@@ -3,5 +3,5 @@ pub mod Allowed
 pub mod Extremes
 pub mod Filling
 pub mod Formulas
-pub mod Limits
+pub mod CountLimits
 pub mod Windows

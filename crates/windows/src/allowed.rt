@@ -1,8 +1,8 @@
 // Which counts of a channel a bound allows.
-ghost use Rattle.std.specs.Prelude.{◌≡◌, ◌≤◌, MatchBool};
+ghost use Rattle.std.specs.Prelude.{◌≡◌, ◌≤◌, ◌↔◌, IsTrue};
 ghost use Rattle.round.specs.Lists.{readings as d_of};
 ghost use Rattle.windows.specs.Allowed.{Allowed};
-ghost use Rattle.windows.specs.Limits.{HighestBelow, LowestAbove};
+ghost use Rattle.windows.specs.CountLimits.{HighestBelow, LowestAbove};
 
 use penalty::{Penalty, Question};
 use round::Readings;
@@ -11,28 +11,29 @@ use round::Readings;
 #[derive(Clone, Copy)]
 pub(crate) struct Counts<'a, P> {
     pub(crate) penalty: &'a P,
-    pub(crate) readings: &'a Readings,
+    pub(crate) table: &'a Readings,
     pub(crate) bound: u64,
     pub(crate) channel: u8,
 }
 
 impl<'a, P: Penalty> Counts<'a, P> {
     // How many readings the channel has.
-    pub(crate) fn all(&self) -> u16
-        ensures { result ≡ d_of self.now.readings.now.by_channel self.now.channel }
+    pub(crate) fn readings(&self) -> u16
+        ensures { result ≡ d_of self.now.table.now.by_channel self.now.channel }
     {
-        self.readings.of(self.channel)
+        self.table.of(self.channel)
     }
 
     // Whether a count is allowed after a slot.
     pub(crate) fn allows(&self, slot: u16, count: u16) -> bool
-        requires { count ≤ d_of self.now.readings.now.by_channel self.now.channel }
-        ensures { MatchBool result (Allowed (P.cost self.now.penalty.now) self.now.readings.now.by_channel self.now.bound slot self.now.channel count) (Allowed (P.cost self.now.penalty.now) self.now.readings.now.by_channel self.now.bound slot self.now.channel count → ⊥) }
+        requires { count ≤ d_of self.now.table.now.by_channel self.now.channel }
+        ensures { IsTrue result ↔ Allowed (P.cost self.now.penalty.now) self.now.table.now.by_channel self.now.bound
+            slot self.now.channel count }
     {
         let cost = self.penalty.cost(Question {
-            slots: self.readings.total(),
+            slots: self.table.total(),
             channel: self.channel,
-            readings: self.all(),
+            readings: self.readings(),
             count,
             slot,
         });
@@ -42,10 +43,11 @@ impl<'a, P: Penalty> Counts<'a, P> {
     // The smallest allowed count above `count`.
     // A `for`, here and below: what `find` gives of numbers that count down did not prove (docs/DECISIONS.md).
     pub(crate) fn lowest_above(&self, slot: u16, count: u16) -> Option<u16>
-        requires { count ≤ d_of self.now.readings.now.by_channel self.now.channel }
-        ensures { LowestAbove (P.cost self.now.penalty.now) self.now.readings.now.by_channel self.now.bound slot self.now.channel count result }
+        requires { count ≤ d_of self.now.table.now.by_channel self.now.channel }
+        ensures { LowestAbove (P.cost self.now.penalty.now) self.now.table.now.by_channel self.now.bound slot
+            self.now.channel count result }
     {
-        for above in count + 1..=self.all() {
+        for above in count + 1..=self.readings() {
             if self.allows(slot, above) {
                 return Some(above);
             }
@@ -55,8 +57,9 @@ impl<'a, P: Penalty> Counts<'a, P> {
 
     // The greatest allowed count below `count`.
     pub(crate) fn highest_below(&self, slot: u16, count: u16) -> Option<u16>
-        requires { count ≤ d_of self.now.readings.now.by_channel self.now.channel }
-        ensures { HighestBelow (P.cost self.now.penalty.now) self.now.readings.now.by_channel self.now.bound slot self.now.channel count result }
+        requires { count ≤ d_of self.now.table.now.by_channel self.now.channel }
+        ensures { HighestBelow (P.cost self.now.penalty.now) self.now.table.now.by_channel self.now.bound slot
+            self.now.channel count result }
     {
         for below in (0..count).rev() {
             if self.allows(slot, below) {

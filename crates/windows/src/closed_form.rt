@@ -1,5 +1,5 @@
 // Steiner and Yeomans' formulas: the window of a reading under the absolute deviation, without a search.
-ghost use Rattle.std.specs.Prelude.{◌≡◌, ℕ, ◌≤◌, List, IfSome, MatchOption, sum};
+ghost use Rattle.std.specs.Prelude.{◌≡◌, ℕ, ◌≤◌, List, IfSome, SomeIff, sum};
 ghost use Rattle.penalty.specs.Absolute.{absolute};
 ghost use Rattle.round.specs.Lists.{Sound, readings as d_of};
 ghost use Rattle.windows.specs.Allowed.{NoneBlocked};
@@ -11,8 +11,9 @@ ghost use Rattle.windows.specs.Windows.{IsWindow};
 /// from 1 to `readings`.
 #[tactic(auto, using(crate::proofs::SteinerYeomans::formulas_give))]
 pub fn steiner_yeomans(slots: u16, readings: u16, reading: u16, bound: u64) -> Option<(u16, u16)>
-    ensures formulas { MatchOption result ((1 ≤ reading) × (reading ≤ readings) → ⊥) (λ w. (1 ≤ reading) × (reading ≤ readings) × (w.0 ≡ earliest_of slots readings reading bound) × (w.1 ≡ latest_of slots readings reading bound)) }
-    ensures window { IfSome result (λ w. (t : List ℕ) (c : ℕ) → Sound t → slots ≡ sum t → readings ≡ d_of t c → NoneBlocked absolute t bound → IsWindow absolute t bound c reading w) }
+    ensures formulas { SomeIff result ((1 ≤ reading) × (reading ≤ readings)) (earliest_of slots readings reading bound, latest_of slots readings reading bound) }
+    ensures window { IfSome result (λ w. (t : List ℕ) (c : ℕ) → Sound t → slots ≡ sum t → readings ≡ d_of t c → NoneBlocked absolute t bound →
+        IsWindow absolute t bound c reading w) }
 {
     if reading < 1 || reading > readings {
         return None;

@@ -1,11 +1,13 @@
 // How many readings of a channel are needed by each slot, and how many may stand by it.
-ghost use Rattle.std.specs.Prelude.{ℕ, ◌<◌, ◌≤◌, sum, IfErr, IfOk, OnOk};
+ghost use Rattle.std.specs.Prelude.{ℕ, ◌≤◌, IfErr, IfOk, OnOk};
 ghost use Rattle.round.specs.Lists.{Channel, readings as d_of};
 ghost use Rattle.windows.specs.Allowed.{Blocked};
-ghost use Rattle.windows.specs.Limits.{AreFewest, AreLimits, AreMost, NeededBy, RoomBy, SomeAllowed};
+ghost use Rattle.windows.specs.Extremes.{IsLeast};
+ghost use Rattle.windows.specs.CountLimits.{AreFewest, AreCountLimits, AreMost, FewestBy, MostBy, SomeAllowed};
 
 use crate::allowed::Counts;
-use penalty::{LIMIT, Penalty};
+use limits::LIMIT;
+use penalty::Penalty;
 
 // How many moments a channel can have: one after each slot, and one before the first.
 pub(crate) const MOMENTS: usize = LIMIT as usize + 1;
@@ -18,12 +20,15 @@ pub(crate) struct CountLimits {
 }
 
 impl<'a, P: Penalty> Counts<'a, P> {
-    // Both of these for each slot, or the first slot that is blocked.
-    pub(crate) fn limits(&self) -> Result<CountLimits, u16>
-        requires { Channel self.now.readings.now.by_channel self.now.channel }
-        ensures open { OnOk result ((k : ℕ) → Blocked (P.cost self.now.penalty.now) self.now.readings.now.by_channel self.now.bound k self.now.channel → ⊥) }
-        ensures limits { IfOk result (λ limits. AreLimits (P.cost self.now.penalty.now) self.now.readings.now.by_channel self.now.bound self.now.channel limits.fewest limits.most) }
-        ensures blocked { IfErr result (λ slot. Blocked (P.cost self.now.penalty.now) self.now.readings.now.by_channel self.now.bound slot self.now.channel × ((k : ℕ) → k < slot → Blocked (P.cost self.now.penalty.now) self.now.readings.now.by_channel self.now.bound k self.now.channel → ⊥)) }
+    // Both of these for each slot, or the first slot after which the channel is blocked.
+    pub(crate) fn count_limits(&self) -> Result<CountLimits, u16>
+        requires { Channel self.now.table.now.by_channel self.now.channel }
+        ensures unblocked { OnOk result ((k : ℕ) → Blocked (P.cost self.now.penalty.now) self.now.table.now.by_channel
+            self.now.bound k self.now.channel → ⊥) }
+        ensures limits { IfOk result (λ limits. AreCountLimits (P.cost self.now.penalty.now) self.now.table.now.by_channel
+            self.now.bound self.now.channel limits.fewest limits.most) }
+        ensures blocked { IfErr result (IsLeast (λ k. Blocked (P.cost self.now.penalty.now) self.now.table.now.by_channel
+            self.now.bound k self.now.channel)) }
     {
         let fewest = self.fewest()?;
         Ok(CountLimits {
@@ -32,27 +37,35 @@ impl<'a, P: Penalty> Counts<'a, P> {
         })
     }
 
-    // For each slot how many readings are needed by it, or the first slot that is blocked.
+    // For each slot how many readings are needed by it, or the first slot after which the channel is blocked.
     fn fewest(&self) -> Result<[u16; MOMENTS], u16>
-        ensures open { OnOk result ((k : ℕ) → k ≤ sum self.now.readings.now.by_channel → SomeAllowed (P.cost self.now.penalty.now) self.now.readings.now.by_channel self.now.bound k self.now.channel) }
-        ensures fewest { IfOk result (AreFewest (P.cost self.now.penalty.now) self.now.readings.now.by_channel self.now.bound self.now.channel) }
-        ensures blocked { IfErr result (λ slot. (slot ≤ sum self.now.readings.now.by_channel) × (SomeAllowed (P.cost self.now.penalty.now) self.now.readings.now.by_channel self.now.bound slot self.now.channel → ⊥) × ((k : ℕ) → k < slot → SomeAllowed (P.cost self.now.penalty.now) self.now.readings.now.by_channel self.now.bound k self.now.channel)) }
+        requires { Channel self.now.table.now.by_channel self.now.channel }
+        ensures unblocked { OnOk result ((k : ℕ) → Blocked (P.cost self.now.penalty.now) self.now.table.now.by_channel
+            self.now.bound k self.now.channel → ⊥) }
+        ensures fewest { IfOk result (AreFewest (P.cost self.now.penalty.now) self.now.table.now.by_channel self.now.bound
+            self.now.channel) }
+        ensures blocked { IfErr result (IsLeast (λ k. Blocked (P.cost self.now.penalty.now) self.now.table.now.by_channel
+            self.now.bound k self.now.channel)) }
     {
         let mut fewest = [0; MOMENTS];
         let mut count = 0;
-        for slot in 0..=self.readings.total() {
-            count = self.needed_by(slot, count).ok_or(slot)?;
-            fewest[usize::from(slot)] = count;
+        for slot in 0..=self.table.total() {
+            let Some(next) = self.fewest_by(slot, count) else {
+                return Err(slot);
+            };
+            fewest[usize::from(slot)] = next;
+            count = next;
         }
         Ok(fewest)
     }
 
-    // How many readings are needed by a slot where `before` are needed before it, unless the slot is blocked. The count
+    // How many readings are needed by a slot where `before` are needed before it, unless the channel is blocked after it. The count
     // before is the first that is asked about, and is the answer where it is allowed.
-    #[tactic(auto, using(crate::proofs::Searches::needed_same, crate::proofs::Searches::needed_more, crate::proofs::Searches::needed_less, crate::proofs::Searches::needed_none))]
-    fn needed_by(&self, slot: u16, before: u16) -> Option<u16>
-        requires { before ≤ d_of self.now.readings.now.by_channel self.now.channel }
-        ensures { NeededBy (P.cost self.now.penalty.now) self.now.readings.now.by_channel self.now.bound slot self.now.channel before result }
+    #[tactic(auto, using(crate::proofs::Searches::fewest_same, crate::proofs::Searches::fewest_above, crate::proofs::Searches::fewest_below, crate::proofs::Searches::fewest_nowhere))]
+    fn fewest_by(&self, slot: u16, before: u16) -> Option<u16>
+        requires { before ≤ d_of self.now.table.now.by_channel self.now.channel }
+        ensures { FewestBy (P.cost self.now.penalty.now) self.now.table.now.by_channel self.now.bound slot
+            self.now.channel before result }
     {
         if self.allows(slot, before) {
             return Some(before);
@@ -64,25 +77,30 @@ impl<'a, P: Penalty> Counts<'a, P> {
         Some(before)
     }
 
-    // For each slot how many readings may stand by it, where no slot is blocked.
+    // For each slot how many readings may stand by it, where the channel is blocked after none.
     fn most(&self) -> [u16; MOMENTS]
-        requires { (k : ℕ) → k ≤ sum self.now.readings.now.by_channel → SomeAllowed (P.cost self.now.penalty.now) self.now.readings.now.by_channel self.now.bound k self.now.channel }
-        ensures { AreMost (P.cost self.now.penalty.now) self.now.readings.now.by_channel self.now.bound self.now.channel result }
+        requires channel { Channel self.now.table.now.by_channel self.now.channel }
+        requires unblocked { (k : ℕ) → Blocked (P.cost self.now.penalty.now) self.now.table.now.by_channel self.now.bound k
+            self.now.channel → ⊥ }
+        ensures { AreMost (P.cost self.now.penalty.now) self.now.table.now.by_channel self.now.bound self.now.channel
+            result }
     {
         let mut most = [0; MOMENTS];
-        let mut count = self.all();
-        for slot in (0..=self.readings.total()).rev() {
-            count = self.room_by(slot, count);
+        let mut count = self.readings();
+        for slot in (0..=self.table.total()).rev() {
+            count = self.most_by(slot, count);
             most[usize::from(slot)] = count;
         }
         most
     }
 
     // How many readings may stand by a slot where `after` may stand by the next.
-    fn room_by(&self, slot: u16, after: u16) -> u16
-        requires few { after ≤ d_of self.now.readings.now.by_channel self.now.channel }
-        requires some { SomeAllowed (P.cost self.now.penalty.now) self.now.readings.now.by_channel self.now.bound slot self.now.channel }
-        ensures { RoomBy (P.cost self.now.penalty.now) self.now.readings.now.by_channel self.now.bound slot self.now.channel after result }
+    fn most_by(&self, slot: u16, after: u16) -> u16
+        requires few { after ≤ d_of self.now.table.now.by_channel self.now.channel }
+        requires some { SomeAllowed (P.cost self.now.penalty.now) self.now.table.now.by_channel self.now.bound slot
+            self.now.channel }
+        ensures { MostBy (P.cost self.now.penalty.now) self.now.table.now.by_channel self.now.bound slot
+            self.now.channel after result }
     {
         if self.allows(slot, after) {
             return after;

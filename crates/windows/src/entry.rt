@@ -1,12 +1,13 @@
 // The call that puts the windows of all readings into the places of the matching.
 ghost use Rattle.std.specs.Prelude.{◌≡◌, ◌≤◌, length, sum, take, drop, OnOk, IfErr};
 ghost use Rattle.windows.specs.Allowed.{FirstBlocked, NoneBlocked};
-ghost use Rattle.windows.specs.Filling.{AreOpen, AreWindows, IsObstacle};
-ghost use Rattle.windows.specs.Limits.{FirstShutIn, earlier_of};
+ghost use Rattle.windows.specs.Filling.{AreOpen, AreWindows, IsReason};
+ghost use Rattle.windows.specs.CountLimits.{FirstShutIn, earlier_of};
 
 use crate::allowed::Counts;
 use crate::answer::{Moment, Unfilled};
-use matching::{CHANNELS, Window};
+use limits::CHANNELS;
+use matching::Window;
 use penalty::Penalty;
 use round::Readings;
 
@@ -14,19 +15,20 @@ use round::Readings;
 /// slots; or shows why they cannot be matched. As many places are written as there are readings, and no others.
 pub fn fill<P: Penalty>(
     penalty: &P,
-    readings: &Readings,
+    table: &Readings,
     bound: u64,
     places: &mut [Window],
 ) -> Result<(), Unfilled>
-    ensures rest { drop (sum readings.now.by_channel) places.new ≡ drop (sum readings.now.by_channel) places.old }
-    ensures filled { OnOk result ((sum readings.now.by_channel ≤ length places.old) × AreOpen (P.cost penalty.now) readings.now.by_channel bound (take (sum readings.now.by_channel) places.new)) }
-    ensures unfilled { IfErr result (IsObstacle (P.cost penalty.now) readings.now.by_channel bound places.old places.new) }
+    ensures rest { drop (sum table.now.by_channel) places.new ≡ drop (sum table.now.by_channel) places.old }
+    ensures filled { OnOk result ((sum table.now.by_channel ≤ length places.old) × AreOpen (P.cost penalty.now)
+        table.now.by_channel bound (take (sum table.now.by_channel) places.new)) }
+    ensures unfilled { IfErr result (IsReason (P.cost penalty.now) table.now.by_channel bound places.old places.new) }
 {
-    let total = usize::from(readings.total());
+    let total = usize::from(table.total());
     if places.len() < total {
         return Err(Unfilled::Places);
     }
-    fill_channels(penalty, readings, bound, places)?;
+    fill_channels(penalty, table, bound, places)?;
     match first_shut(&places[..total]) {
         Some(window) => Err(Unfilled::Shut(window)),
         None => Ok(()),
@@ -36,32 +38,33 @@ pub fn fill<P: Penalty>(
 // Puts the windows into the places, channel after channel, or finds the first blocked moment.
 fn fill_channels<P: Penalty>(
     penalty: &P,
-    readings: &Readings,
+    table: &Readings,
     bound: u64,
     places: &mut [Window],
 ) -> Result<(), Moment>
-    requires { sum readings.now.by_channel ≤ length places.old }
-    ensures rest { drop (sum readings.now.by_channel) places.new ≡ drop (sum readings.now.by_channel) places.old }
-    ensures filled { OnOk result (NoneBlocked (P.cost penalty.now) readings.now.by_channel bound × AreWindows (P.cost penalty.now) readings.now.by_channel bound (take (sum readings.now.by_channel) places.new)) }
-    ensures blocked { IfErr result (λ m. FirstBlocked (P.cost penalty.now) readings.now.by_channel bound m.slot m.channel) }
+    requires { sum table.now.by_channel ≤ length places.old }
+    ensures rest { drop (sum table.now.by_channel) places.new ≡ drop (sum table.now.by_channel) places.old }
+    ensures filled { OnOk result (NoneBlocked (P.cost penalty.now) table.now.by_channel bound × AreWindows (P.cost
+        penalty.now) table.now.by_channel bound (take (sum table.now.by_channel) places.new)) }
+    ensures blocked { IfErr result (λ m. FirstBlocked (P.cost penalty.now) table.now.by_channel bound m.slot m.channel) }
 {
     let mut blocked = None;
     let mut start = 0;
     for channel in 0..CHANNELS as u8 {
         let counts = Counts {
             penalty,
-            readings,
+            table,
             bound,
             channel,
         };
-        let all = counts.all();
-        if all > 0 {
-            match counts.limits() {
-                Ok(limits) => counts.fill(&limits, places, start),
+        let readings = counts.readings();
+        if readings > 0 {
+            match counts.count_limits() {
+                Ok(limits) => counts.fill_channel(&limits, places, start),
                 Err(slot) => blocked = Some(earlier(blocked, Moment { slot, channel })),
             }
         }
-        start += usize::from(all);
+        start += usize::from(readings);
     }
     match blocked {
         Some(moment) => Err(moment),

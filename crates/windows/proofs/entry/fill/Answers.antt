@@ -5,7 +5,7 @@ use Rattle.windows.proofs.entry.fill.Goals as goal
 
 pub returns-in-Some-clause-unfilled : goal.returns-in-Some-clause-unfilled
 returns-in-Some-clause-unfilled g c =
-    let t = c.args.readings.now.by_channel in
+    let t = c.args.table.now.by_channel in
     let filled = c.in_ok-fill_channels.ensures.filled in
     let found = rw (c.from-total.ensures, c.total.ensures) at c.in-Some.ensures in
     let shut = shut_first (g.P.Penalty.cost c.args.penalty.now) t c.args.bound (take (sum t) c.fill_channels.new.places) filled.1 c.in-Some.window found in
@@ -13,7 +13,7 @@ returns-in-Some-clause-unfilled g c =
 
 pub returns-in-None-clause-filled : goal.returns-in-None-clause-filled
 returns-in-None-clause-filled g c =
-    let t = c.args.readings.now.by_channel in
+    let t = c.args.table.now.by_channel in
     let filled = c.in_ok-fill_channels.ensures.filled in
     let found = rw (c.from-total.ensures, c.total.ensures) at c.in-None.ensures in (
       omega arith,

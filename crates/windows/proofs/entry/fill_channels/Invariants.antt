@@ -4,4 +4,4 @@ use Rattle.windows.proofs.entry.fill_channels.Given as goal
 
 abbrev pub invariant-loop-channel : goal.invariant-loop-channel
 invariant-loop-channel g l =
-    ChannelsDone (g.P.Penalty.cost l.penalty) l.readings.by_channel l.bound l.initial.places l.channel l.start l.blocked l.places
+    ChannelsDone (g.P.Penalty.cost l.penalty) l.table.by_channel l.bound l.initial.places l.channel l.start l.blocked l.places

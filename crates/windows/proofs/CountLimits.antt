@@ -6,17 +6,32 @@ use Rattle.std.proofs.lemmas.List.{get_or-set_other, get_or-set_same, length-set
 use Rattle.penalty.specs.Cost.{Cost}
 use Rattle.round.specs.Lists.{readings}
 use Rattle.windows.specs.Allowed.{Allowed, Highest, Lowest}
-use Rattle.windows.specs.Limits.{AreFewest, AreMost, Fewest, Most, NeededBy, Parted, PartsAt, RoomBy, SomeAllowed}
+use Rattle.windows.specs.CountLimits.{AreFewest, AreMost, Fewest, Most, FewestBy, Parted, PartsAt, MostBy, SomeAllowed}
 use Rattle.windows.specs.Windows.{Earliest, Forbidden, Latest, Needed, Reading}
 use Rattle.windows.proofs.Extremes.{greatest_same, least_same}
 
+-- what is needed before slot k, by n and by the places of ns before k, where c has an allowed count after each slot before
+pub record FewestUpto (f : Cost) (t : List ℕ) (b c k n : ℕ) (ns : List ℕ) : Type 0 where
+  pub long : length ns ≡ 4097
+  pub few : n ≤ readings t c
+  pub here : Fewest f t b k c n
+  pub some : (i : ℕ) → i < k → SomeAllowed f t b i c
+  pub each : (i : ℕ) → i < k → Fewest f t b (i + 1) c (get_or ns i 0)
+
+-- what may stand by slot k and those after it, by n and by the places of ns from k on
+pub record MostFrom (f : Cost) (t : List ℕ) (b c k n : ℕ) (ns : List ℕ) : Type 0 where
+  pub long : length ns ≡ 4097
+  pub few : n ≤ readings t c
+  pub here : Most f t b k c n
+  pub each : (i : ℕ) → k ≤ i → i ≤ sum t → Most f t b i c (get_or ns i 0)
+
 module _ (f : Cost) (t : List ℕ) (b c : ℕ) where
   -- no moment comes before slot 0
-  pub fewest_none : Fewest f t b c 0 0
+  pub fewest_none : Fewest f t b 0 c 0
   fewest_none j reading = (λ h. absurd (omega (arith, reading.0)), λ p. absurd (omega (arith, p.1)))
 
   -- one slot more, in which x is the smallest allowed count
-  pub fewest_more : (k n x : ℕ) → k ≤ sum t → Lowest f t b k c x → Fewest f t b c k n → Fewest f t b c (k + 1) (max n x)
+  pub fewest_more : (k n x : ℕ) → k ≤ sum t → Lowest f t b k c x → Fewest f t b k c n → Fewest f t b (k + 1) c (max n x)
   fewest_more k n x inside low old j reading =
       let was = old j reading in (
         λ h.
@@ -35,11 +50,11 @@ module _ (f : Cost) (t : List ℕ) (b c : ℕ) where
       )
 
   -- no moment comes after slot S
-  pub most_none : Most f t b c (sum t + 1) (readings t c)
+  pub most_none : Most f t b (sum t + 1) c (readings t c)
   most_none j reading = (λ h. absurd (omega (arith, reading.1)), λ p. absurd (omega (arith, p.1, p.2.0)))
 
   -- one slot before, in which x is the greatest allowed count
-  pub most_less : (k n x : ℕ) → k ≤ sum t → Highest f t b k c x → Most f t b c (k + 1) n → Most f t b c k (min n x)
+  pub most_less : (k n x : ℕ) → k ≤ sum t → Highest f t b k c x → Most f t b (k + 1) c n → Most f t b k c (min n x)
   most_less k n x inside high old j reading =
       let was = old j reading in (
         λ h.
@@ -57,43 +72,36 @@ module _ (f : Cost) (t : List ℕ) (b c : ℕ) where
             (cases_lt k p.0),
       )
 
-  -- what is needed before slot k, by n and by the places of ns before k, where no slot before is blocked
-  abbrev pub FewestUpto : ℕ → ℕ → List ℕ → Type 0
-  FewestUpto k n ns = (length ns ≡ 4097) × (n ≤ readings t c) × Fewest f t b c k n × ((i : ℕ) → i < k → SomeAllowed f t b i c)
-      × ((i : ℕ) → i < k → Fewest f t b c (i + 1) (get_or ns i 0))
-
   -- one slot more
-  pub fewest_step : (k n m : ℕ) (ns : List ℕ) → k ≤ sum t → k ≤ 4096 → FewestUpto k n ns → NeededBy f t b k c n (Some m) → FewestUpto (k + 1) m (set ns k m)
-  fewest_step k n m ns inside few old needed =
-      let more : Fewest f t b c (k + 1) m = rw needed.2 (fewest_more k n needed.0 inside needed.1 old.2) in (
-        length-set ns k m ∙ old.0,
-        omega (arith, needed.2, needed.1.holds.0, old.1),
-        more,
-        λ i h. ⊎_elim (λ less. old.3 i less) (λ ge. subst (λ (x : ℕ). SomeAllowed f t b x c) (omega arith) (needed.0, needed.1.holds)) (cases_lt i k),
-        λ i h.
+  pub fewest_step : (k n m : ℕ) (ns : List ℕ) → k ≤ sum t → k ≤ 4096 → FewestUpto f t b c k n ns → FewestBy f t b k c n (Some m) → FewestUpto f t b c (k + 1) m (set ns k m)
+  fewest_step k n m ns inside few old found =
+      let more : Fewest f t b (k + 1) c m = rw found.2 (fewest_more k n found.0 inside found.1 old.here) in
+      record {
+        long = length-set ns k m ∙ old.long;
+        few = omega (arith, found.2, found.1.holds.0, old.few);
+        here = more;
+        some = λ i h. ⊎_elim (λ less. old.some i less) (λ ge. subst (λ (x : ℕ). SomeAllowed f t b x c) (omega arith) (found.0, found.1.holds)) (cases_lt i k);
+        each = λ i h.
             ⊎_elim
-            (λ same. rw (same, get_or-set_same ns k m 0 (omega (arith, old.0))) more)
-            (λ other. rw (get_or-set_other ns k i m 0 other) (old.4 i (omega arith)))
-            (cases_eq i k),
-      )
-
-  -- what may stand by slot k and those after it, by n and by the places of ns from k on
-  abbrev pub MostFrom : ℕ → ℕ → List ℕ → Type 0
-  MostFrom k n ns = (length ns ≡ 4097) × (n ≤ readings t c) × Most f t b c k n × ((i : ℕ) → k ≤ i → i ≤ sum t → Most f t b c i (get_or ns i 0))
+            (λ same. rw (same, get_or-set_same ns k m 0 (omega (arith, old.long))) more)
+            (λ other. rw (get_or-set_other ns k i m 0 other) (old.each i (omega arith)))
+            (cases_eq i k);
+      }
 
   -- one slot before
-  pub most_step : (k n m : ℕ) (ns : List ℕ) → k ≤ sum t → k ≤ 4096 → MostFrom (k + 1) n ns → RoomBy f t b k c n m → MostFrom k m (set ns k m)
-  most_step k n m ns inside few old room =
-      let less : Most f t b c k m = rw room.2 (most_less k n room.0 inside room.1 old.2) in (
-        length-set ns k m ∙ old.0,
-        omega (arith, room.2, old.1),
-        less,
-        λ i from upto.
+  pub most_step : (k n m : ℕ) (ns : List ℕ) → k ≤ sum t → k ≤ 4096 → MostFrom f t b c (k + 1) n ns → MostBy f t b k c n m → MostFrom f t b c k m (set ns k m)
+  most_step k n m ns inside few old found =
+      let less : Most f t b k c m = rw found.2 (most_less k n found.0 inside found.1 old.here) in
+      record {
+        long = length-set ns k m ∙ old.long;
+        few = omega (arith, found.2, old.few);
+        here = less;
+        each = λ i from upto.
             ⊎_elim
-            (λ same. rw (same, get_or-set_same ns k m 0 (omega (arith, old.0))) less)
-            (λ other. rw (get_or-set_other ns k i m 0 other) (old.3 i (omega arith) upto))
-            (cases_eq i k),
-      )
+            (λ same. rw (same, get_or-set_same ns k m 0 (omega (arith, old.long))) less)
+            (λ other. rw (get_or-set_other ns k i m 0 other) (old.each i (omega arith) upto))
+            (cases_eq i k);
+      }
 
   module _ (ns : List ℕ) where
     module _ (most : AreMost f t b c ns) (j : ℕ) (reading : Reading t c j) where

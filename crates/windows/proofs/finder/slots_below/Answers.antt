@@ -2,7 +2,7 @@
 use Rattle.std.proofs.Common.{◌+◌, ltb, take, arith, rules}
 use Rattle.std.proofs.lemmas.List.Sorted.{IsPartitionPoint-from_clause}
 use Rattle.windows.proofs.Parts.{parted_take, parts_at}
-use Rattle.windows.proofs.finder.below.Goals as goal
+use Rattle.windows.proofs.finder.slots_below.Goals as goal
 
 pub returns : goal.returns
 returns c =

@@ -4,49 +4,49 @@ use Rattle.std.specs.Prelude.{◌≡◌, ℕ, ◌+◌, ◌<◌, ◌≤◌, ◌�
 use Rattle.penalty.specs.Cost.{Cost}
 use Rattle.matching.specs.Windows.{earliest_at, latest_at, window}
 use Rattle.matching.specs.declared.window.Window.{Window}
-use Rattle.round.specs.Lists.{Before}
 use Rattle.windows.specs.declared.answer.Moment.{Moment}
-use Rattle.windows.specs.Allowed.{Allowed, Blocked, Highest, Lowest}
+use Rattle.windows.specs.Allowed.{Allowed, Highest, Lowest}
+use Rattle.windows.specs.Extremes.{IsGreatest, IsLeast}
 use Rattle.windows.specs.Windows.{Forbidden, Needed, Reading}
 
 -- the smallest allowed count above m, or nothing where there is none
 abbrev pub LowestAbove : Cost → List ℕ → ℕ → ℕ → ℕ → ℕ → Option ℕ → Type 0
-LowestAbove f t b k c m r = MatchOption r ((x : ℕ) → m < x → Allowed f t b k c x → ⊥) (λ y. (m < y) × Allowed f t b k c y × ((x : ℕ) → m < x → x < y → Allowed f t b k c x → ⊥))
+LowestAbove f t b k c m r = MatchOption r ((x : ℕ) → m < x → Allowed f t b k c x → ⊥) (IsLeast (λ x. (m < x) × Allowed f t b k c x))
 
 -- the greatest allowed count below m, or nothing where there is none
 abbrev pub HighestBelow : Cost → List ℕ → ℕ → ℕ → ℕ → ℕ → Option ℕ → Type 0
-HighestBelow f t b k c m r = MatchOption r ((x : ℕ) → x < m → Allowed f t b k c x → ⊥) (λ y. (y < m) × Allowed f t b k c y × ((x : ℕ) → y < x → x < m → Allowed f t b k c x → ⊥))
+HighestBelow f t b k c m r = MatchOption r ((x : ℕ) → x < m → Allowed f t b k c x → ⊥) (IsGreatest (λ x. (x < m) × Allowed f t b k c x))
 
 -- readings 1 to n of channel c are those that some moment before k needs
 abbrev pub Fewest : Cost → List ℕ → ℕ → ℕ → ℕ → ℕ → Type 0
-Fewest f t b c k n = (j : ℕ) → Reading t c j → (j ≤ n) ↔ ((i : ℕ) × (i < k) × Needed f t b c j i)
+Fewest f t b k c n = (j : ℕ) → Reading t c j → (j ≤ n) ↔ ((i : ℕ) × (i < k) × Needed f t b c j i)
 
 -- readings above n of channel c are those that some moment from k on forbids
 abbrev pub Most : Cost → List ℕ → ℕ → ℕ → ℕ → ℕ → Type 0
-Most f t b c k n = (j : ℕ) → Reading t c j → (n < j) ↔ ((i : ℕ) × (k ≤ i) × Forbidden f t b c j i)
+Most f t b k c n = (j : ℕ) → Reading t c j → (n < j) ↔ ((i : ℕ) × (k ≤ i) × Forbidden f t b c j i)
 
 -- some count of channel c is allowed after slot k
 abbrev pub SomeAllowed : Cost → List ℕ → ℕ → ℕ → ℕ → Type 0
 SomeAllowed f t b k c = (x : ℕ) × Allowed f t b k c x
 
 -- how many readings of channel c are needed by slot k where n are before it: as many as the smallest allowed count, but at least n
-abbrev pub NeededBy : Cost → List ℕ → ℕ → ℕ → ℕ → ℕ → Option ℕ → Type 0
-NeededBy f t b k c n r = MatchOption r (SomeAllowed f t b k c → ⊥) (λ m. (x : ℕ) × Lowest f t b k c x × (m ≡ max n x))
+abbrev pub FewestBy : Cost → List ℕ → ℕ → ℕ → ℕ → ℕ → Option ℕ → Type 0
+FewestBy f t b k c n r = MatchOption r (SomeAllowed f t b k c → ⊥) (λ m. (x : ℕ) × Lowest f t b k c x × (m ≡ max n x))
 
 -- how many may stand by slot k where n may after it: as many as the greatest allowed count, but at most n
-abbrev pub RoomBy : Cost → List ℕ → ℕ → ℕ → ℕ → ℕ → ℕ → Type 0
-RoomBy f t b k c n m = (x : ℕ) × Highest f t b k c x × (m ≡ min n x)
+abbrev pub MostBy : Cost → List ℕ → ℕ → ℕ → ℕ → ℕ → ℕ → Type 0
+MostBy f t b k c n m = (x : ℕ) × Highest f t b k c x × (m ≡ min n x)
 
 -- place k of ns tells how many readings of channel c are needed by slot k
 abbrev pub AreFewest : Cost → List ℕ → ℕ → ℕ → List ℕ → Type 0
-AreFewest f t b c ns = (k : ℕ) → k ≤ sum t → Fewest f t b c (k + 1) (slice_index ns k)
+AreFewest f t b c ns = (k : ℕ) → k ≤ sum t → Fewest f t b (k + 1) c (slice_index ns k)
 
 -- place k of ns tells how many readings of channel c are forbidden neither by slot k nor by a later one
 abbrev pub AreMost : Cost → List ℕ → ℕ → ℕ → List ℕ → Type 0
-AreMost f t b c ns = (k : ℕ) → k ≤ sum t → Most f t b c k (slice_index ns k)
+AreMost f t b c ns = (k : ℕ) → k ≤ sum t → Most f t b k c (slice_index ns k)
 
 -- both of these of channel c
-pub record AreLimits (f : Cost) (t : List ℕ) (b c : ℕ) (ns ms : List ℕ) : Type 0 where
+pub record AreCountLimits (f : Cost) (t : List ℕ) (b c : ℕ) (ns ms : List ℕ) : Type 0 where
   pub fewest : AreFewest f t b c ns
   pub most : AreMost f t b c ms
 
@@ -57,12 +57,6 @@ Parted ns m j = (i k : ℕ) → i ≤ k → k ≤ m → slice_index ns k < j →
 -- and they are the first r
 abbrev pub PartsAt : List ℕ → ℕ → ℕ → ℕ → Type 0
 PartsAt ns m j r = (r ≤ m + 1) × ((k : ℕ) → k < r → slice_index ns k < j) × ((k : ℕ) → r ≤ k → k ≤ m → j ≤ slice_index ns k)
-
--- the first blocked moment of the channels below n, if there is one
-abbrev pub FirstBelow : Cost → List ℕ → ℕ → ℕ → Option Moment → Type 0
-FirstBelow f t b n r =
-    MatchOption r ((k c : ℕ) → c < n → Blocked f t b k c → ⊥)
-    (λ m. (m.channel < n) × Blocked f t b m.slot m.channel × ((k c : ℕ) → c < n → Before k c m.slot m.channel → Blocked f t b k c → ⊥))
 
 -- what the helper `earlier` answers: of moments after the same slot the one before stays
 abbrev pub earlier_of : Option Moment → Moment → Moment
