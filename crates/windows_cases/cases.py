@@ -121,11 +121,20 @@ def cases():
 
 
 # worked by hand in docs/RULES.md
-NONE = [0] * 8
-assert answers(0, NONE, 1, 64, {0: 2, 1: 1})[0] == "WINDOWS 0:1:1-1 0:2:3-3 1:1:2-2"
-assert answers(0, NONE, 1, 64, {0: 1, 1: 1})[0] == "WINDOWS 0:1:1-2 1:1:1-2"
-assert answers(0, NONE, 0, 64, {0: 1, 1: 1})[0] == "MOMENT 1 0"
-assert answers(0, NONE, 1, 64, {0: 1, 1: 1, 2: 1})[0] == "WINDOWS 0:1:2-2 1:1:2-2 2:1:2-2"
+WORKED = [
+    (0, [], 1, {0: 2, 1: 1}, "WINDOWS 0:1:1-1 0:2:3-3 1:1:2-2"),
+    (0, [], 1, {0: 1, 1: 1}, "WINDOWS 0:1:1-2 1:1:1-2"),
+    (0, [], 0, {0: 1, 1: 1}, "MOMENT 1 0"),
+    (0, [], 1, {0: 1, 1: 1, 2: 1}, "WINDOWS 0:1:2-2 1:1:2-2 2:1:2-2"),
+    (0, [], 2, {0: 1, 1: 2, 2: 3}, "MOMENT 1 2"),
+    (2, [0, 2, 0, 2], 1, {0: 2, 1: 1}, "WINDOWS 0:1:1-1 0:2:3-3 1:1:1-1"),
+    (2, [0, 0], 0, {0: 1}, "SHUT 0 1 2 1 0"),
+    (2, [1, 1], 0, {0: 1}, "SHUT 0 1 1 0 0"),
+    (2, [0, 2, 1], 0, {0: 2}, "SHUT 0 2 3 1 0"),
+]
+for penalty, centres, bound, table, line in WORKED:
+    assert answers(penalty, centres + [0] * (8 - len(centres)), bound, MOST_PLACES, table)[0] == line
+assert formula(3, 2, 1, 1) == (1, 1) and formula(3, 2, 2, 1) == (3, 3) and formula(3, 1, 1, 1) == (2, 2)
 
 data, lines = bytearray(), []
 for penalty, centres, bound, places, table in cases():

@@ -14,7 +14,7 @@ from timing import least_seconds
 
 PROGRAM = Path(__file__).parent / "out" / "windows_cases"
 COPIES = 40
-TABLES = {"64 times 64": [64] * 64, "4,000 and 96": [4000, 96], "skewed": [1] * 32 + [2] * 16 + [16] * 15 + [3776]}
+TABLES = {"64 times 64": [64] * 64, "4,000 and 96": [4000, 96], "skewed": [1] * 32 + [2] * 16 + [16] * 15 + [3792]}
 
 
 def case(readings, bound, places):

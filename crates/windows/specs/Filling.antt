@@ -24,8 +24,8 @@ pub record AreWindows (f : Cost) (t : List ℕ) (b : ℕ) (ws : List Window) : T
   pub long : length ws ≡ sum t
   pub each : (c j : ℕ) → Reading t c j → IsRecord f t b c j (window ws (place_of t c j))
 
--- what is in the way of windows at bound b in the places ws, and what is left of these: there are too few, and then nothing
--- has changed; or a moment is blocked; or a window is shut
+-- why the places ws do not get the windows at bound b, and what is left of them: there are too few, and then nothing has
+-- changed; or a moment is blocked; or a window is shut
 abbrev pub IsReason : Cost → List ℕ → ℕ → List Window → List Window → Unfilled → Type 0
 IsReason f t b ws ws' Places = (length ws < sum t) × (ws' ≡ ws)
 IsReason f t b ws ws' (Blocked moment) = (sum t ≤ length ws) × FirstBlocked f t b moment.slot moment.channel

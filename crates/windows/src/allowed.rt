@@ -41,7 +41,7 @@ impl<'a, P: Penalty> Counts<'a, P> {
     }
 
     // The smallest allowed count above `count`.
-    // A `for`, here and below: what `find` gives of numbers that count down did not prove (docs/DECISIONS.md).
+    // A `for` and no `find`, as in the search that goes down (docs/DECISIONS.md).
     pub(crate) fn lowest_above(&self, slot: u16, count: u16) -> Option<u16>
         requires { count ≤ d_of self.now.table.now.by_channel self.now.channel }
         ensures { LowestAbove (P.cost self.now.penalty.now) self.now.table.now.by_channel self.now.bound slot

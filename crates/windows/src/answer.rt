@@ -1,4 +1,4 @@
-// Why the readings of a round have no windows that a list can keep.
+// Why the places do not hold the windows of a round.
 use matching::Window;
 
 /// A slot after which a channel is counted, 0 before the first, and the channel.
@@ -10,7 +10,7 @@ pub struct Moment {
     pub channel: u8,
 }
 
-/// Why the places hold no windows that a list can keep.
+/// Why the places do not hold the windows of a round.
 #[derive(Clone, Copy, PartialEq, Eq, Debug)]
 pub enum Unfilled {
     /// There are fewer places than readings.

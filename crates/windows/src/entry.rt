@@ -12,7 +12,8 @@ use penalty::Penalty;
 use round::Readings;
 
 /// Puts the windows of all readings at a bound into places for the matching, by channel and then reading, without
-/// slots; or shows why they cannot be matched. As many places are written as there are readings, and no others.
+/// slots; or answers why not: too few places, the first blocked moment, or the first shut window. No more places are
+/// written than there are readings.
 pub fn fill<P: Penalty>(
     penalty: &P,
     table: &Readings,

@@ -32,10 +32,28 @@ const EMPTY: Window = Window {
 // How many bytes a channel has: its number (1) and its readings (2).
 const CHANNEL_BYTES: usize = 3;
 
+// Which penalty a case is about.
+#[derive(Clone, Copy, PartialEq, Eq)]
+enum Chosen {
+    Absolute,
+    TwoSided,
+    Centred,
+}
+
+impl From<u8> for Chosen {
+    fn from(code: u8) -> Chosen {
+        match code {
+            0 => Chosen::Absolute,
+            1 => Chosen::TwoSided,
+            _ => Chosen::Centred,
+        }
+    }
+}
+
 // What is asked: the windows of a table at a bound under a penalty, in so many places.
 #[derive(Clone, Copy)]
 struct Query<'a> {
-    penalty: u8,
+    penalty: Chosen,
     bound: u64,
     centres: [u8; CENTRES],
     places: u16,
@@ -54,7 +72,7 @@ impl<'a> Case<'a> for Query<'a> {
         };
         let (channels, rest) = rest.split_at_checked(usize::from(*channels) * CHANNEL_BYTES)?;
         let query = Query {
-            penalty: *penalty,
+            penalty: Chosen::from(*penalty),
             bound: u64::from_be_bytes(*bound),
             centres: *centres,
             places: u16::from_be_bytes([*p1, *p0]),
@@ -82,9 +100,9 @@ fn filled(query: &Query, readings: &Readings, places: &mut [Window]) -> Result<(
         centres: query.centres,
     };
     match query.penalty {
-        0 => fill(&AbsoluteDeviation, readings, query.bound, places),
-        1 => fill(&TwoSided, readings, query.bound, places),
-        _ => fill(&centred, readings, query.bound, places),
+        Chosen::Absolute => fill(&AbsoluteDeviation, readings, query.bound, places),
+        Chosen::TwoSided => fill(&TwoSided, readings, query.bound, places),
+        Chosen::Centred => fill(&centred, readings, query.bound, places),
     }
 }
 
@@ -154,7 +172,7 @@ fn main(rt: HostRuntime) -> anyhow::Result<()> {
         };
         let line = line_of(rt.alloc(), &query, &readings)?;
         println!(rt; "{line}")?;
-        if query.penalty == 0 {
+        if query.penalty == Chosen::Absolute {
             let formulas = formulas_of(rt.alloc(), query.bound, &readings)?;
             println!(rt; "{formulas}")?;
         }

@@ -1,9 +1,4 @@
 // Windows worked by hand, blocked moments, shut windows, what memory keeps, and how often a penalty is asked.
-ghost use Rattle.std.proofs.Common.{rules};
-ghost use Rattle.penalty.specs.Absolute.{absolute};
-ghost use Rattle.penalty.specs.Bottoms.{bottom_valley, size_valley};
-ghost use Rattle.penalty.specs.Deviation.{size};
-
 use crate::EMPTY;
 use crate::centred::{CENTRES, Centred};
 use matching::{CHANNELS, Window};
@@ -42,12 +37,12 @@ fn centred(first: &[u8]) -> Centred {
     Centred { centres }
 }
 
-// What is in the way of the windows of a table.
-fn obstacle<P: Penalty>(penalty: &P, readings: &[u16], bound: u64) -> Result<Unfilled, Fail> {
+// Why there are no windows of a table.
+fn unfilled<P: Penalty>(penalty: &P, readings: &[u16], bound: u64) -> Result<Unfilled, Fail> {
     let mut places = [EMPTY; 8];
     match fill(penalty, &table(readings)?, bound, &mut places) {
         Ok(()) => Err(Fail::new("windows")),
-        Err(unfilled) => Ok(unfilled),
+        Err(why) => Ok(why),
     }
 }
 
@@ -108,18 +103,18 @@ fn a_later_moment_forbids(rt: HostRuntime) -> Result<(), Fail> {
     Ok(())
 }
 
-// At bound 2 channel 0 is blocked after slot 3, channel 1 nowhere, and channel 2 after slot 1.
 #[test]
 fn blocked_moments(rt: HostRuntime) -> Result<(), Fail> {
     assert_eq!(rt;
-        obstacle(&AbsoluteDeviation, &[1, 1], 0)?,
+        unfilled(&AbsoluteDeviation, &[1, 1], 0)?,
         Unfilled::Blocked(Moment {
             slot: 1,
             channel: 0
         })
     );
+    // channel 0 is blocked after slot 3, channel 1 nowhere, and channel 2 after slot 1
     assert_eq!(rt;
-        obstacle(&AbsoluteDeviation, &[1, 2, 3], 2)?,
+        unfilled(&AbsoluteDeviation, &[1, 2, 3], 2)?,
         Unfilled::Blocked(Moment {
             slot: 1,
             channel: 2
@@ -131,20 +126,20 @@ fn blocked_moments(rt: HostRuntime) -> Result<(), Fail> {
 #[test]
 fn shut_windows(rt: HostRuntime) -> Result<(), Fail> {
     assert_eq!(rt;
-        obstacle(&centred(&[0, 0]), &[1], 0)?,
+        unfilled(&centred(&[0, 0]), &[1], 0)?,
         Unfilled::Shut(window(0, 1, 2, 1))
     );
     assert_eq!(rt;
-        obstacle(&centred(&[1, 1]), &[1], 0)?,
+        unfilled(&centred(&[1, 1]), &[1], 0)?,
         Unfilled::Shut(window(0, 1, 1, 0))
     );
     assert_eq!(rt;
-        obstacle(&centred(&[0, 2, 0]), &[2], 0)?,
+        unfilled(&centred(&[0, 2, 0]), &[2], 0)?,
         Unfilled::Shut(window(0, 1, 3, 1))
     );
     // the first reading is open, and the second is shut
     assert_eq!(rt;
-        obstacle(&centred(&[0, 2, 1]), &[2], 0)?,
+        unfilled(&centred(&[0, 2, 1]), &[2], 0)?,
         Unfilled::Shut(window(0, 2, 3, 1))
     );
     Ok(())
@@ -184,36 +179,38 @@ fn formulas(rt: HostRuntime) {
     );
 }
 
-// The absolute deviation, with how often it was asked.
+// A penalty, with how often it was asked.
 #[derive(Drop)]
-struct Counting {
+struct Counting<P> {
+    below: P,
     asked: Cell<u32>,
 }
 
-impl Penalty for Counting {
-    ghost cost = { λ _. absolute };
+impl<P: Penalty> Penalty for Counting<P> {
+    ghost cost = { λ p. P.Penalty.cost p.below };
 
-    ghost depth = { λ _. 0 };
+    ghost depth = { λ p. P.Penalty.depth p.below };
 
-    ghost capped = { Prim.search rules };
+    ghost capped = { λ p. P.Penalty.capped p.below };
 
-    ghost outside = { Prim.search rules };
+    ghost outside = { λ p. P.Penalty.outside p.below };
 
-    ghost valley = { λ p. bottom_valley size (λ S c d x k. Prim.search rules) size_valley };
+    ghost valley = { λ p. P.Penalty.valley p.below };
 
     fn cost(&self, question: Question) -> u64 {
         self.asked.set(self.asked.get().saturating_add(1));
-        AbsoluteDeviation.cost(question)
+        self.below.cost(question)
     }
 
     fn depth(&self) -> u8 {
-        0
+        self.below.depth()
     }
 }
 
-// How often the penalty is asked for the windows of 64 channels of 64 readings at a bound.
+// How often the absolute deviation is asked for the windows of 64 channels of 64 readings at a bound.
 fn asked(rt: &HostRuntime, bound: u64) -> Result<u32, Fail> {
     let counting = Counting {
+        below: AbsoluteDeviation,
         asked: Cell::new(0),
     };
     let mut places = vec![in rt.alloc(); EMPTY; usize::from(LIMIT)]?;
@@ -222,11 +219,11 @@ fn asked(rt: &HostRuntime, bound: u64) -> Result<u32, Fail> {
     Ok(counting.asked.get())
 }
 
-// Twice for each of 64 * 4,097 moments, and once more each time the count goes on by one: 64 times 64 on the way up
-// and as often on the way down. At a bound that allows every count it is twice.
+// At a bound that allows every count, twice for each of 64 * 4,097 moments. At bound 4,095 once more each time a count goes on by
+// one: at slot 4,096 each channel has its 64 readings, and back at slot 0 none.
 #[test]
 fn questions(rt: HostRuntime) -> Result<(), Fail> {
     assert_eq!(rt; asked(&rt, TOP - 1)?, 2 * 64 * 4097);
-    assert!(rt; asked(&rt, 4095)? <= 2 * (64 * 4097 + 64 * 64));
+    assert_eq!(rt; asked(&rt, 4095)?, 2 * (64 * 4097 + 64 * 64));
     Ok(())
 }
