@@ -104,10 +104,6 @@ module _ (f : Cost) (t : List ℕ) (b : ℕ) where
         (λ ge. let e : c ≡ n = omega arith in rw e (filled.records j (rw e at reading) (omega (arith, (rw e at reading).1))))
         (cases_lt c n)
 
-    -- no channel is done before the first
-    pub channels_none : ChannelsDone f t b old 0 0 None old
-    channels_none = record { place = refl; first = λ k c h. absurd (omega arith); records = λ c j h. absurd (omega arith); long = refl; rest = refl }
-
     module _ (n start : ℕ) (o : Option Moment) (ws : List Window) (inside : n < length t) (done : ChannelsDone f t b old n start o ws) where
       -- one channel more, of which no moment is blocked
       pub channels_unblocked : (ws' : List Window) → ((k : ℕ) → Blocked f t b k n → ⊥) → FilledTo f t b n start ws (readings t n) ws' →

@@ -26,10 +26,6 @@ pub record MostFrom (f : Cost) (t : List ℕ) (b c k n : ℕ) (ns : List ℕ) : 
   pub each : (i : ℕ) → k ≤ i → i ≤ sum t → Most f t b i c (get_or ns i 0)
 
 module _ (f : Cost) (t : List ℕ) (b c : ℕ) where
-  -- no moment comes before slot 0
-  pub fewest_none : Fewest f t b 0 c 0
-  fewest_none j reading = (λ h. absurd (omega (arith, reading.0)), λ p. absurd (omega (arith, p.1)))
-
   -- one slot more, in which x is the smallest allowed count
   pub fewest_more : (k n x : ℕ) → k ≤ sum t → Lowest f t b k c x → Fewest f t b k c n → Fewest f t b (k + 1) c (max n x)
   fewest_more k n x inside low old j reading =
@@ -48,10 +44,6 @@ module _ (f : Cost) (t : List ℕ) (b c : ℕ) where
             omega (arith, p.2.3))
             (cases_lt p.0 k),
       )
-
-  -- no moment comes after slot S
-  pub most_none : Most f t b (sum t + 1) c (readings t c)
-  most_none j reading = (λ h. absurd (omega (arith, reading.1)), λ p. absurd (omega (arith, p.1, p.2.0)))
 
   -- one slot before, in which x is the greatest allowed count
   pub most_less : (k n x : ℕ) → k ≤ sum t → Highest f t b k c x → Most f t b (k + 1) c n → Most f t b k c (min n x)

@@ -27,8 +27,8 @@ impl<'a, P: Penalty> Counts<'a, P> {
     // Whether a count is allowed after a slot.
     pub(crate) fn allows(&self, slot: u16, count: u16) -> bool
         requires { count ≤ d_of self.now.table.now.by_channel self.now.channel }
-        ensures { IsTrue result ↔ Allowed (P.cost self.now.penalty.now) self.now.table.now.by_channel self.now.bound
-            slot self.now.channel count }
+        ensures { IsTrue result ↔
+            Allowed (P.cost self.now.penalty.now) self.now.table.now.by_channel self.now.bound slot self.now.channel count }
     {
         let cost = self.penalty.cost(Question {
             slots: self.table.total(),
@@ -44,8 +44,8 @@ impl<'a, P: Penalty> Counts<'a, P> {
     // A `for` and no `find`, as in the search that goes down (docs/DECISIONS.md).
     pub(crate) fn lowest_above(&self, slot: u16, count: u16) -> Option<u16>
         requires { count ≤ d_of self.now.table.now.by_channel self.now.channel }
-        ensures { LowestAbove (P.cost self.now.penalty.now) self.now.table.now.by_channel self.now.bound slot
-            self.now.channel count result }
+        ensures { LowestAbove (P.cost self.now.penalty.now) self.now.table.now.by_channel self.now.bound
+            slot self.now.channel count result }
     {
         for above in count + 1..=self.readings() {
             if self.allows(slot, above) {
@@ -58,8 +58,8 @@ impl<'a, P: Penalty> Counts<'a, P> {
     // The greatest allowed count below `count`.
     pub(crate) fn highest_below(&self, slot: u16, count: u16) -> Option<u16>
         requires { count ≤ d_of self.now.table.now.by_channel self.now.channel }
-        ensures { HighestBelow (P.cost self.now.penalty.now) self.now.table.now.by_channel self.now.bound slot
-            self.now.channel count result }
+        ensures { HighestBelow (P.cost self.now.penalty.now) self.now.table.now.by_channel self.now.bound
+            slot self.now.channel count result }
     {
         for below in (0..count).rev() {
             if self.allows(slot, below) {

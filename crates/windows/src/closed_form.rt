@@ -11,8 +11,10 @@ ghost use Rattle.windows.specs.Windows.{IsWindow};
 /// from 1 to `readings`.
 #[tactic(auto, using(crate::proofs::SteinerYeomans::formulas_give))]
 pub fn steiner_yeomans(slots: u16, readings: u16, reading: u16, bound: u64) -> Option<(u16, u16)>
-    ensures formulas { SomeIff result ((1 ≤ reading) × (reading ≤ readings)) (earliest_of slots readings reading bound, latest_of slots readings reading bound) }
-    ensures window { IfSome result (λ w. (t : List ℕ) (c : ℕ) → Sound t → slots ≡ sum t → readings ≡ d_of t c → NoneBlocked absolute t bound →
+    ensures formulas { SomeIff result ((1 ≤ reading) × (reading ≤ readings))
+        (earliest_of slots readings reading bound, latest_of slots readings reading bound) }
+    ensures window { IfSome result (λ w. (t : List ℕ) (c : ℕ) →
+        Sound t → slots ≡ sum t → readings ≡ d_of t c → NoneBlocked absolute t bound →
         IsWindow absolute t bound c reading w) }
 {
     if reading < 1 || reading > readings {

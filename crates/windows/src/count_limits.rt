@@ -23,12 +23,13 @@ impl<'a, P: Penalty> Counts<'a, P> {
     // Both of these for each slot, or the first slot after which the channel is blocked.
     pub(crate) fn count_limits(&self) -> Result<CountLimits, u16>
         requires { Channel self.now.table.now.by_channel self.now.channel }
-        ensures unblocked { OnOk result ((k : ℕ) → Blocked (P.cost self.now.penalty.now) self.now.table.now.by_channel
-            self.now.bound k self.now.channel → ⊥) }
-        ensures limits { IfOk result (λ limits. AreCountLimits (P.cost self.now.penalty.now) self.now.table.now.by_channel
-            self.now.bound self.now.channel limits.fewest limits.most) }
-        ensures blocked { IfErr result (IsLeast (λ k. Blocked (P.cost self.now.penalty.now) self.now.table.now.by_channel
-            self.now.bound k self.now.channel)) }
+        ensures unblocked { OnOk result ((k : ℕ) →
+            Blocked (P.cost self.now.penalty.now) self.now.table.now.by_channel self.now.bound k self.now.channel → ⊥) }
+        ensures limits { IfOk result (λ limits.
+            AreCountLimits (P.cost self.now.penalty.now) self.now.table.now.by_channel self.now.bound
+            self.now.channel limits.fewest limits.most) }
+        ensures blocked { IfErr result (IsLeast (λ k.
+            Blocked (P.cost self.now.penalty.now) self.now.table.now.by_channel self.now.bound k self.now.channel)) }
     {
         let fewest = self.fewest()?;
         Ok(CountLimits {
@@ -40,12 +41,12 @@ impl<'a, P: Penalty> Counts<'a, P> {
     // For each slot how many readings are needed by it, or the first slot after which the channel is blocked.
     fn fewest(&self) -> Result<[u16; MOMENTS], u16>
         requires { Channel self.now.table.now.by_channel self.now.channel }
-        ensures unblocked { OnOk result ((k : ℕ) → Blocked (P.cost self.now.penalty.now) self.now.table.now.by_channel
-            self.now.bound k self.now.channel → ⊥) }
-        ensures fewest { IfOk result (AreFewest (P.cost self.now.penalty.now) self.now.table.now.by_channel self.now.bound
-            self.now.channel) }
-        ensures blocked { IfErr result (IsLeast (λ k. Blocked (P.cost self.now.penalty.now) self.now.table.now.by_channel
-            self.now.bound k self.now.channel)) }
+        ensures unblocked { OnOk result ((k : ℕ) →
+            Blocked (P.cost self.now.penalty.now) self.now.table.now.by_channel self.now.bound k self.now.channel → ⊥) }
+        ensures fewest { IfOk result (
+            AreFewest (P.cost self.now.penalty.now) self.now.table.now.by_channel self.now.bound self.now.channel) }
+        ensures blocked { IfErr result (IsLeast (λ k.
+            Blocked (P.cost self.now.penalty.now) self.now.table.now.by_channel self.now.bound k self.now.channel)) }
     {
         let mut fewest = [0; MOMENTS];
         let mut count = 0;
@@ -59,13 +60,13 @@ impl<'a, P: Penalty> Counts<'a, P> {
         Ok(fewest)
     }
 
-    // How many readings are needed by a slot where `before` are needed before it, unless the channel is blocked after it. The count
-    // before is the first that is asked about, and is the answer where it is allowed.
+    // How many readings are needed by a slot where `before` are needed before it, unless the channel is blocked after
+    // it. The count before is the first that is asked about, and is the answer where it is allowed.
     #[tactic(auto, using(crate::proofs::Searches::fewest_same, crate::proofs::Searches::fewest_above, crate::proofs::Searches::fewest_below, crate::proofs::Searches::fewest_nowhere))]
     fn fewest_by(&self, slot: u16, before: u16) -> Option<u16>
         requires { before ≤ d_of self.now.table.now.by_channel self.now.channel }
-        ensures { FewestBy (P.cost self.now.penalty.now) self.now.table.now.by_channel self.now.bound slot
-            self.now.channel before result }
+        ensures { FewestBy (P.cost self.now.penalty.now) self.now.table.now.by_channel self.now.bound
+            slot self.now.channel before result }
     {
         if self.allows(slot, before) {
             return Some(before);
@@ -80,10 +81,9 @@ impl<'a, P: Penalty> Counts<'a, P> {
     // For each slot how many readings may stand by it, where the channel is blocked after none.
     fn most(&self) -> [u16; MOMENTS]
         requires channel { Channel self.now.table.now.by_channel self.now.channel }
-        requires unblocked { (k : ℕ) → Blocked (P.cost self.now.penalty.now) self.now.table.now.by_channel self.now.bound k
-            self.now.channel → ⊥ }
-        ensures { AreMost (P.cost self.now.penalty.now) self.now.table.now.by_channel self.now.bound self.now.channel
-            result }
+        requires unblocked { (k : ℕ) →
+            Blocked (P.cost self.now.penalty.now) self.now.table.now.by_channel self.now.bound k self.now.channel → ⊥ }
+        ensures { AreMost (P.cost self.now.penalty.now) self.now.table.now.by_channel self.now.bound self.now.channel result }
     {
         let mut most = [0; MOMENTS];
         let mut count = self.readings();
@@ -97,10 +97,10 @@ impl<'a, P: Penalty> Counts<'a, P> {
     // How many readings may stand by a slot where `after` may stand by the next.
     fn most_by(&self, slot: u16, after: u16) -> u16
         requires few { after ≤ d_of self.now.table.now.by_channel self.now.channel }
-        requires some { SomeAllowed (P.cost self.now.penalty.now) self.now.table.now.by_channel self.now.bound slot
-            self.now.channel }
-        ensures { MostBy (P.cost self.now.penalty.now) self.now.table.now.by_channel self.now.bound slot
-            self.now.channel after result }
+        requires some { SomeAllowed (P.cost self.now.penalty.now) self.now.table.now.by_channel self.now.bound
+            slot self.now.channel }
+        ensures { MostBy (P.cost self.now.penalty.now) self.now.table.now.by_channel self.now.bound
+            slot self.now.channel after result }
     {
         if self.allows(slot, after) {
             return after;

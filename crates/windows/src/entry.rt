@@ -21,8 +21,8 @@ pub fn fill<P: Penalty>(
     places: &mut [Window],
 ) -> Result<(), Unfilled>
     ensures rest { drop (sum table.now.by_channel) places.new ≡ drop (sum table.now.by_channel) places.old }
-    ensures filled { OnOk result ((sum table.now.by_channel ≤ length places.old) × AreOpen (P.cost penalty.now)
-        table.now.by_channel bound (take (sum table.now.by_channel) places.new)) }
+    ensures filled { OnOk result ((sum table.now.by_channel ≤ length places.old)
+        × AreOpen (P.cost penalty.now) table.now.by_channel bound (take (sum table.now.by_channel) places.new)) }
     ensures unfilled { IfErr result (IsReason (P.cost penalty.now) table.now.by_channel bound places.old places.new) }
 {
     let total = usize::from(table.total());
@@ -45,8 +45,8 @@ fn fill_channels<P: Penalty>(
 ) -> Result<(), Moment>
     requires { sum table.now.by_channel ≤ length places.old }
     ensures rest { drop (sum table.now.by_channel) places.new ≡ drop (sum table.now.by_channel) places.old }
-    ensures filled { OnOk result (NoneBlocked (P.cost penalty.now) table.now.by_channel bound × AreWindows (P.cost
-        penalty.now) table.now.by_channel bound (take (sum table.now.by_channel) places.new)) }
+    ensures filled { OnOk result (NoneBlocked (P.cost penalty.now) table.now.by_channel bound
+        × AreWindows (P.cost penalty.now) table.now.by_channel bound (take (sum table.now.by_channel) places.new)) }
     ensures blocked { IfErr result (λ m. FirstBlocked (P.cost penalty.now) table.now.by_channel bound m.slot m.channel) }
 {
     let mut blocked = None;

@@ -15,8 +15,8 @@ impl<'a, P: Penalty> Counts<'a, P> {
         requires limits { AreCountLimits (P.cost self.now.penalty.now) self.now.table.now.by_channel self.now.bound
             self.now.channel limits.now.fewest limits.now.most }
         requires reading { Reading self.now.table.now.by_channel self.now.channel reading }
-        ensures { IsWindow (P.cost self.now.penalty.now) self.now.table.now.by_channel self.now.bound self.now.channel
-            reading result }
+        ensures { IsWindow (P.cost self.now.penalty.now) self.now.table.now.by_channel self.now.bound
+            self.now.channel reading result }
     {
         let slots = self.table.total();
         let earliest = slots_below(&limits.most, slots, reading).max(1);

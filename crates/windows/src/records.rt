@@ -17,12 +17,12 @@ impl<'a, P: Penalty> Counts<'a, P> {
         requires room { start + d_of self.now.table.now.by_channel self.now.channel ≤ length places.old }
         requires limits { AreCountLimits (P.cost self.now.penalty.now) self.now.table.now.by_channel self.now.bound
             self.now.channel limits.now.fewest limits.now.most }
-        ensures filled { (j : ℕ) → Reading self.now.table.now.by_channel self.now.channel j → IsRecord (P.cost
-            self.now.penalty.now) self.now.table.now.by_channel self.now.bound self.now.channel j (window
-            places.new (start + (j - 1))) }
+        ensures filled { (j : ℕ) → Reading self.now.table.now.by_channel self.now.channel j →
+            IsRecord (P.cost self.now.penalty.now) self.now.table.now.by_channel self.now.bound self.now.channel j
+            (window places.new (start + (j - 1))) }
         ensures before { take start places.new ≡ take start places.old }
-        ensures after { drop (start + d_of self.now.table.now.by_channel self.now.channel) places.new ≡ drop (start + d_of
-            self.now.table.now.by_channel self.now.channel) places.old }
+        ensures after { drop (start + d_of self.now.table.now.by_channel self.now.channel) places.new
+            ≡ drop (start + d_of self.now.table.now.by_channel self.now.channel) places.old }
     {
         // By number: a reading's place and its number go on together.
         for before in 0..self.readings() {
@@ -35,8 +35,8 @@ impl<'a, P: Penalty> Counts<'a, P> {
         requires limits { AreCountLimits (P.cost self.now.penalty.now) self.now.table.now.by_channel self.now.bound
             self.now.channel limits.now.fewest limits.now.most }
         requires reading { Reading self.now.table.now.by_channel self.now.channel reading }
-        ensures { IsRecord (P.cost self.now.penalty.now) self.now.table.now.by_channel self.now.bound self.now.channel
-            reading result }
+        ensures { IsRecord (P.cost self.now.penalty.now) self.now.table.now.by_channel self.now.bound
+            self.now.channel reading result }
     {
         let (earliest, latest) = self.window(limits, reading);
         Window {
