@@ -9,7 +9,6 @@ ghost use Rattle.windows.specs.Windows.{IsWindow};
 /// The window of a reading of a channel with `readings` readings in a round of `slots` slots, under the absolute
 /// deviation and where the bound blocks no moment: its earliest and its latest slot. Nothing where `reading` is not
 /// from 1 to `readings`.
-#[tactic(auto, using(crate::proofs::SteinerYeomans::formulas_give))]
 pub fn steiner_yeomans(slots: u16, readings: u16, reading: u16, bound: u64) -> Option<(u16, u16)>
     ensures formulas { SomeIff result ((1 ≤ reading) × (reading ≤ readings))
         (earliest_of slots readings reading bound, latest_of slots readings reading bound) }

@@ -62,7 +62,7 @@ impl<'a, P: Penalty> Counts<'a, P> {
 
     // How many readings are needed by a slot where `before` are needed before it, unless the channel is blocked after
     // it. The count before is the first that is asked about, and is the answer where it is allowed.
-    #[tactic(auto, using(crate::proofs::Searches::fewest_same, crate::proofs::Searches::fewest_above, crate::proofs::Searches::fewest_below, crate::proofs::Searches::fewest_nowhere))]
+    #[tactic(auto, using(crate::proofs::Searches::fewest_same, crate::proofs::Searches::fewest_above, crate::proofs::Searches::fewest_nowhere))]
     fn fewest_by(&self, slot: u16, before: u16) -> Option<u16>
         requires { before ≤ d_of self.now.table.now.by_channel self.now.channel }
         ensures { FewestBy (P.cost self.now.penalty.now) self.now.table.now.by_channel self.now.bound
