@@ -1,6 +1,6 @@
 -- The records of the channels so far, and the first moment of these that is blocked.
-use Rattle.std.proofs.Common.{◌≡◌, ℕ, ◌+◌, ◌<◌, ◌≤◌, leb, List, [], None, Some, Option, IfNone, MatchOption, length, get_or, take, drop, sum, sym, refl, ap, ◌∙◌, inl, ⊎_elim, arith}
-use Rattle.std.proofs.lemmas.Bool.{cases_Bool, cases_lt, leb-false, leb-true}
+use Rattle.std.proofs.Common.{◌≡◌, ℕ, ◌+◌, ◌<◌, ◌≤◌, List, [], None, Some, Option, IfNone, MatchOption, length, get_or, take, drop, sum, sym, refl, ap, ◌∙◌, inl, inr, ⊎_elim, arith}
+use Rattle.std.proofs.lemmas.Bool.{cases_eq, cases_lt}
 use Rattle.std.proofs.lemmas.List.{get_or-take, length-take}
 use Rattle.std.proofs.lemmas.List.Sums.{sum_by_more}
 use Rattle.matching.proofs.Queueing.{drop_later}
@@ -12,7 +12,7 @@ use Rattle.round.proofs.Counts.{channel_below}
 use Rattle.windows.specs.Allowed.{Blocked, FirstBlocked, NoneBlocked}
 use Rattle.windows.specs.Extremes.{IsLeast}
 use Rattle.windows.specs.Filling.{AreWindows, IsRecord, place_of}
-use Rattle.windows.specs.CountLimits.{earlier_of}
+use Rattle.windows.specs.CountLimits.{FirstOfBoth}
 use Rattle.windows.specs.Windows.{Reading}
 use Rattle.windows.specs.declared.answer.Moment.{Moment}
 use Rattle.windows.proofs.Places.{FilledTo, place_before, place_inside, within_sum}
@@ -51,43 +51,44 @@ module _ (f : Cost) (t : List ℕ) (b : ℕ) where
     λ k c h before p. ⊎_elim (λ less. old.2 k c less before p) (λ ge. let e : c ≡ n = omega arith in clear k (rw e at p)) (cases_lt c n),
   )
 
-  -- the first blocked moment of channel n is after slot s
-  first_more : (n s : ℕ) (o : Option Moment) → IsLeast (λ k. Blocked f t b k n) s → FirstBelow f t b n o →
-      FirstBelow f t b (n + 1) (Some (earlier_of o (record { slot = s; channel = n })))
-  first_more n s None first old = (
+  -- the first blocked moment of channel n is after slot s, and r is the first of it and of those before
+  first_more : (n s : ℕ) (o : Option Moment) (r : Moment) → IsLeast (λ k. Blocked f t b k n) s → FirstOfBoth o (record { slot = s; channel = n }) r →
+      FirstBelow f t b n o → FirstBelow f t b (n + 1) (Some r)
+  first_more n s None r least is old = rw is (
     omega arith,
-    first.holds,
+    least.holds,
     λ k c h before p.
         ⊎_elim
         (λ less. old k c less p)
-        (λ ge. let e : c ≡ n = omega arith in ⊎_elim (λ less. omega (arith, first.least k (rw e at p))) (λ same. omega (arith, same.1)) before)
+        (λ ge. let e : c ≡ n = omega arith in ⊎_elim (λ less. omega (arith, least.least k (rw e at p))) (λ same. omega (arith, same.1)) before)
         (cases_lt c n),
   )
-  first_more n s (Some m) first old =
-      ⊎_elim
-      (λ t. let le = leb-true m.slot s t in rw t (
-        omega (arith, old.0),
-        old.1,
-        λ k c h before p.
-            ⊎_elim
-            (λ less. old.2 k c less before p)
-            (λ ge.
-            let e : c ≡ n = omega arith in
-            ⊎_elim (λ less. omega (arith, first.least k (rw e at p))) (λ same. omega (arith, old.0, same.1)) before)
-            (cases_lt c n),
-      ))
-      (λ f. let less = leb-false m.slot s f in rw f (
-        omega arith,
-        first.holds,
-        λ k c h before p.
-            ⊎_elim
-            (λ below.
-            let earlier : Before k c m.slot m.channel = ⊎_elim (λ l. inl (omega arith)) (λ same. inl (omega (arith, same.0))) before in
-            old.2 k c below earlier p)
-            (λ ge. let e : c ≡ n = omega arith in ⊎_elim (λ l. omega (arith, first.least k (rw e at p))) (λ same. omega (arith, same.1)) before)
-            (cases_lt c n),
-      ))
-      (cases_Bool (leb m.slot s))
+  first_more n s (Some m) r least (inl is, after, before) old = rw is (
+    omega (arith, old.0),
+    old.1,
+    λ k c h earlier p.
+        ⊎_elim
+        (λ below. old.2 k c below earlier p)
+        (λ ge.
+        let e : c ≡ n = omega arith in
+        let from = least.least k (rw e at p) in
+        (rw is at before) (⊎_elim (λ less. inl (omega arith)) (λ same. absurd (omega (arith, old.0, same.1))) earlier))
+        (cases_lt c n),
+  )
+  first_more n s (Some m) r least (inr is, after, before) old = rw is (
+    omega arith,
+    least.holds,
+    λ k c h earlier p.
+        let later : s < m.slot =
+        ⊎_elim
+        (λ less. less)
+        (λ ge. absurd ((rw is at after) (⊎_elim (λ same. inr (same, old.0)) (λ other. inl (omega arith)) (cases_eq m.slot s))))
+        (cases_lt s m.slot) in
+        ⊎_elim
+        (λ below. old.2 k c below (inl (⊎_elim (λ less. omega arith) (λ same. omega (arith, same.0)) earlier)) p)
+        (λ ge. let e : c ≡ n = omega arith in ⊎_elim (λ less. omega (arith, least.least k (rw e at p))) (λ same. omega (arith, same.1)) earlier)
+        (cases_lt c n),
+  )
 
   module _ (old : List Window) where
     -- the records of one channel more are in ws'
@@ -123,11 +124,11 @@ module _ (f : Cost) (t : List ℕ) (b : ℕ) where
           (record { long = refl; records = λ j reading. absurd (omega (arith, reading.0, reading.1)); before = refl; after = refl })
 
       -- one channel more, whose first blocked moment is after slot s
-      pub channels_blocked : (s : ℕ) → IsLeast (λ k. Blocked f t b k n) s →
-          ChannelsDone f t b old (n + 1) (start + readings t n) (Some (earlier_of o (record { slot = s; channel = n }))) ws
-      channels_blocked s first = record {
+      pub channels_blocked : (s : ℕ) (r : Moment) → IsLeast (λ k. Blocked f t b k n) s → FirstOfBoth o (record { slot = s; channel = n }) r →
+          ChannelsDone f t b old (n + 1) (start + readings t n) (Some r) ws
+      channels_blocked s r least first = record {
         place = omega (arith, sum_by_more (λ x. x) t n 0 inside, done.place);
-        first = first_more n s o first done.first;
+        first = first_more n s o r least first done.first;
         records = tt;
         long = done.long;
         rest = done.rest;

@@ -1,9 +1,10 @@
 -- What the helpers answer: the searches over the counts of a channel, how many of its readings are needed by a slot and how
 -- many may stand by it, the first blocked moment so far, the first record that is shut. They serve the proofs only.
-use Rattle.std.specs.Prelude.{◌≡◌, ℕ, ◌+◌, ◌<◌, ◌≤◌, ◌↔◌, min, max, cond, nat_le, Some, None, List, length, sum, MatchOption, Option, slice_index}
+use Rattle.std.specs.Prelude.{◌≡◌, ℕ, ◌+◌, ◌<◌, ◌≤◌, ◌↔◌, ◌⊎◌, min, max, List, length, sum, MatchOption, Option, slice_index}
 use Rattle.penalty.specs.Cost.{Cost}
 use Rattle.matching.specs.Windows.{earliest_at, latest_at, window}
 use Rattle.matching.specs.declared.window.Window.{Window}
+use Rattle.round.specs.Lists.{Before}
 use Rattle.windows.specs.declared.answer.Moment.{Moment}
 use Rattle.windows.specs.Allowed.{Allowed, Highest, Lowest}
 use Rattle.windows.specs.Extremes.{IsGreatest, IsLeast}
@@ -58,10 +59,11 @@ Parted ns m j = (i k : ℕ) → i ≤ k → k ≤ m → slice_index ns k < j →
 abbrev pub PartsAt : List ℕ → ℕ → ℕ → ℕ → Type 0
 PartsAt ns m j r = (r ≤ m + 1) × ((k : ℕ) → k < r → slice_index ns k < j) × ((k : ℕ) → r ≤ k → k ≤ m → j ≤ slice_index ns k)
 
--- what the helper `earlier` answers: of moments after the same slot the one before stays
-abbrev pub earlier_of : Option Moment → Moment → Moment
-earlier_of None next = next
-earlier_of (Some m) next = cond (nat_le m.slot next.slot) m next
+-- r is the first of two moments, the next one and maybe one before: neither comes before it
+abbrev pub FirstOfBoth : Option Moment → Moment → Moment → Type 0
+FirstOfBoth o next r =
+    MatchOption o (r ≡ next)
+    (λ m. ((r ≡ m) ⊎ (r ≡ next)) × (Before m.slot m.channel r.slot r.channel → ⊥) × (Before next.slot next.channel r.slot r.channel → ⊥))
 
 -- w is the first record of ws whose window is shut, or there is none
 abbrev pub FirstShutIn : List Window → Option Window → Type 0

@@ -1,8 +1,8 @@
 // The call that puts the windows of all readings into the places of the matching.
-ghost use Rattle.std.specs.Prelude.{◌≡◌, ◌≤◌, length, sum, take, drop, OnOk, IfErr};
+ghost use Rattle.std.specs.Prelude.{◌≡◌, ◌<◌, ◌≤◌, length, sum, take, drop, OnOk, IfErr, IfSome};
 ghost use Rattle.windows.specs.Allowed.{FirstBlocked, NoneBlocked};
 ghost use Rattle.windows.specs.Filling.{AreOpen, AreWindows, IsReason};
-ghost use Rattle.windows.specs.CountLimits.{FirstShutIn, earlier_of};
+ghost use Rattle.windows.specs.CountLimits.{FirstOfBoth, FirstShutIn};
 
 use crate::allowed::Counts;
 use crate::answer::{Moment, Unfilled};
@@ -62,7 +62,7 @@ fn fill_channels<P: Penalty>(
         if readings > 0 {
             match counts.count_limits() {
                 Ok(limits) => counts.fill_channel(&limits, places, start),
-                Err(slot) => blocked = Some(earlier(blocked, Moment { slot, channel })),
+                Err(slot) => blocked = Some(first_of_both(blocked, Moment { slot, channel })),
             }
         }
         start += usize::from(readings);
@@ -73,13 +73,15 @@ fn fill_channels<P: Penalty>(
     }
 }
 
-// The earlier of a moment that was found before and the next, which is of a greater channel.
-fn earlier(before: Option<Moment>, next: Moment) -> Moment
-    ensures { result ≡ earlier_of before next }
+// The first of two moments: the next one, and maybe one of a smaller channel that was found before.
+fn first_of_both(before: Option<Moment>, next: Moment) -> Moment
+    requires { IfSome before (λ m. m.channel < next.channel) }
+    ensures { FirstOfBoth before next result }
 {
-    before
-        .filter(|found| found.slot <= next.slot)
-        .unwrap_or(next)
+    match before {
+        Some(found) if found.slot <= next.slot => found,
+        _ => next,
+    }
 }
 
 // The first record whose window is shut.

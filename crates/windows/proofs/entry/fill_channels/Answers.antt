@@ -18,8 +18,8 @@ loop-channel-preserved g c =
           rw (w.places-is, w.blocked-is, c.from-start.ensures, c.readings-readings.ensures)
           (channels_unblocked f t b old l.channel l.start l.blocked l.places inside l.invariant w.fill_channel.new.places w.in-Ok.ensures.unblocked (record { long = w.fill_channel.auto.places; records = λ j reading h. told.filled j reading; before = told.before; after = told.after }))
       | then-readings-gt0+in-Err w ↦
-          rw (w.places-is, w.blocked-is, w.earlier.ensures, c.from-start.ensures, c.readings-readings.ensures)
-          (channels_blocked f t b old l.channel l.start l.blocked l.places inside l.invariant w.in-Err.slot w.in-Err.ensures.blocked)
+          rw (w.places-is, w.blocked-is, c.from-start.ensures, c.readings-readings.ensures)
+          (channels_blocked f t b old l.channel l.start l.blocked l.places inside l.invariant w.in-Err.slot w.first_of_both.result w.in-Err.ensures.blocked w.first_of_both.ensures)
       | else-readings-gt0 w ↦
           rw (w.places-is, w.blocked-is, c.from-start.ensures, c.readings-readings.ensures)
           (channels_empty f t b old l.channel l.start l.blocked l.places inside l.invariant (omega arith))
