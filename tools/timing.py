@@ -1,4 +1,4 @@
-"""How long a program takes on an input, for the scripts `time_*.py` of the crates."""
+"""How long a program takes on an input, for the scripts that time many copies of a case."""
 
 import subprocess
 import time

@@ -45,11 +45,12 @@ module _ (t : List ℕ) (sound : Sound t) (b c : ℕ) (here : Channel t c) where
   allowed_from : (k x : ℕ) → k ≤ sum t → x ≤ readings t c → sum t * x ≤ k * readings t c + b → k * readings t c ≤ sum t * x + b → Allowed absolute t b k c x
   allowed_from k x upto within ahead behind = (within, omega (arith, size_is k x upto within))
 
+  -- and an allowed one is neither
   allowed_to : (k x : ℕ) → k ≤ sum t → Allowed absolute t b k c x → (sum t * x ≤ k * readings t c + b) × (k * readings t c ≤ sum t * x + b)
   allowed_to k x upto a = let size = size_is k x upto a.0 in (omega (arith, a.1), omega (arith, a.1))
 
   module _ (none : NoneBlocked absolute t b) (j : ℕ) (reading : Reading t c j) where
-    -- hi(c,k) < j exactly when j readings are too far ahead
+    -- where hi(c,k) < j, j readings are too far ahead
     forbidden_to : (k : ℕ) → Forbidden absolute t b c j k → k * readings t c + b < j * sum t
     forbidden_to k p =
         let x = p.1 in
@@ -64,6 +65,7 @@ module _ (t : List ℕ) (sound : Sound t) (b c : ℕ) (here : Channel t c) where
         let top = p.2.greatest (x + 1) a in absurd (omega arith))
         (cases_lt (k * readings t c + b) (S * (x + 1)))
 
+    -- and where they are, hi(c,k) < j
     forbidden_from : (k : ℕ) → k ≤ sum t → k * readings t c + b < j * sum t → Forbidden absolute t b c j k
     forbidden_from k upto past =
         let S = sum t in
@@ -73,7 +75,7 @@ module _ (t : List ℕ) (sound : Sound t) (b c : ℕ) (here : Channel t c) where
         let comm = mul_comm S j in
         (upto, high.0, high.1, ⊎_elim (λ less. less) (λ ge. let le = mul-le-mul_left S ge in absurd (omega (arith, was.0))) (cases_lt high.0 j))
 
-    -- lo(c,k) ≥ j exactly when j − 1 readings are too far behind
+    -- where lo(c,k) ≥ j, j − 1 readings are too far behind
     needed_to : (k : ℕ) → Needed absolute t b c j k → (j - 1) * sum t + b < k * readings t c
     needed_to k p =
         let x = p.1 in
@@ -87,6 +89,7 @@ module _ (t : List ℕ) (sound : Sound t) (b c : ℕ) (here : Channel t c) where
         let low = p.2.least (j - 1) a in absurd (omega (arith, p.3, reading.0)))
         (cases_lt ((j - 1) * S + b) (k * readings t c))
 
+    -- and where they are, lo(c,k) ≥ j
     needed_from : (k : ℕ) → k ≤ sum t → (j - 1) * sum t + b < k * readings t c → Needed absolute t b c j k
     needed_from k upto past =
         let S = sum t in

@@ -1,5 +1,5 @@
 -- What the helpers answer: the searches over the counts of a channel, how many of its readings are needed by a slot and how
--- many may stand by it, the first blocked moment so far, the first record that is shut. They serve the proofs only.
+-- many may stand by it, the first of two moments, the first record that is shut. They serve the proofs only.
 use Rattle.std.specs.Prelude.{◌≡◌, ℕ, ◌+◌, ◌<◌, ◌≤◌, ◌↔◌, ◌⊎◌, min, max, List, length, sum, MatchOption, Option, slice_index}
 use Rattle.penalty.specs.Cost.{Cost}
 use Rattle.matching.specs.Windows.{earliest_at, latest_at, window}
