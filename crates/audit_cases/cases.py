@@ -8,7 +8,11 @@ first, and then the input.
 """
 
 import random
+import sys
 from pathlib import Path
+
+sys.path.insert(0, str(Path(__file__).parents[2] / "tools"))
+from storing import store
 
 CHANNELS = 64
 LIMIT = 4096
@@ -141,9 +145,7 @@ def main():
         assert whole(input_) == line, (line, whole(input_))
         cases.append((input_, line))
     cases += [(input_, whole(input_)) for input_ in at_random(random.Random(1))]
-    here = Path(__file__).parent
-    here.joinpath("stdin").write_bytes(b"".join(len(i).to_bytes(4, "big") + i for i, _ in cases))
-    here.joinpath("stdout").write_text("".join(line + "\n" for _, line in cases))
+    store(__file__, b"".join(len(i).to_bytes(4, "big") + i for i, _ in cases), [line for _, line in cases])
 
 
 if __name__ == "__main__":

@@ -9,8 +9,13 @@ for each window its channel (1), reading, earliest and latest (2 each), numbers 
 """
 
 import random
+import sys
 from itertools import permutations
 from pathlib import Path
+
+sys.path.insert(0, str(Path(__file__).parents[2] / "tools"))
+from rules import placement
+from storing import store
 
 
 def arranged(windows):
@@ -44,17 +49,6 @@ def no_crowd(windows):
             if number > b - a + 1:
                 return False
     return True
-
-
-def placement(windows):
-    """The slots of the readings by the rule, or None where one cannot be placed."""
-    slots = {}
-    for slot in range(1, len(windows) + 1):
-        ready = [(l, c, j, i) for i, (c, j, e, l) in enumerate(windows) if i not in slots and e <= slot]
-        if not ready or min(ready)[0] < slot:
-            return None
-        slots[min(ready)[3]] = slot
-    return [slots[i] for i in range(len(windows))]
 
 
 def answer(ready, windows):
@@ -140,7 +134,6 @@ def cases():
 
 
 def main():
-    here = Path(__file__).parent
     stdin = bytearray()
     lines = []
     for ready, windows in cases():
@@ -150,10 +143,7 @@ def main():
         lines.append(answer(ready, windows))
     # worked by hand
     assert lines[:2] == ["CROWDED", "PLACED 1 2"]
-    (here / "stdin").write_bytes(stdin)
-    (here / "stdout").write_text("".join(line + "\n" for line in lines))
-    kinds = {k: sum(line.startswith(k) for line in lines) for k in ("PLACED", "CROWDED", "REFUSED READY", "REFUSED WINDOWS")}
-    print(len(lines), kinds)
+    store(__file__, stdin, lines)
 
 
 if __name__ == "__main__":

@@ -1,47 +1,19 @@
 #!/usr/bin/env python3
 """Writes the cases of this crate: `stdin`, and the lines that they must give, `stdout`.
 
-The answers come from the rules as docs/RULES.md states them, in whole numbers without a root table:
-the largest v with v * v <= 1000 * s is looked for upwards from 0. Nothing here is shared with the
-Rattle code. A case has 21 bytes, numbers with the high byte first: the bottom (0 absolute deviation,
+The answers come from the rules as docs/RULES.md states them (tools/rules.py), in whole numbers without a root table:
+the largest v with v * v <= 1000 * s is looked for upwards from 0. Nothing here is shared with the Rattle code. A case has 21 bytes, numbers with the high byte first: the bottom (0 absolute deviation,
 1 two-sided), a channel and its weight (1 and 2 bytes), the tolerance and the limit (4 each), and the
 question: slots (2), channel (1), readings, count and slot (2 each).
 """
 
 import random
+import sys
 from pathlib import Path
 
-TOP = 2**40 - 1
-LARGEST = 16_777_216
-
-
-def root(s):
-    """The largest whole v with v * v <= 1000 * s."""
-    v = 0
-    while (v + 1) * (v + 1) <= 1000 * s:
-        v += 1
-    return v
-
-
-def bottom_cost(two_sided, S, c, d, x, k):
-    """The cost of a bottom."""
-    if not (1 <= S <= 4096 and 0 <= c <= 63 and 1 <= d <= 4096 and 0 <= x <= d and 0 <= k <= S):
-        return TOP
-    q = S * x - k * d
-    if not two_sided:
-        return abs(q)
-    s = min(255, 8 * abs(q) // S)
-    return 40 * s if q < 0 else root(s)
-
-
-def weigh(weight, cost):
-    """The layer weights."""
-    return TOP if cost == TOP else min(weight * cost, TOP - 1)
-
-
-def relax(tolerance, cost):
-    """The layer band."""
-    return TOP if cost == TOP else max(cost - tolerance, 0)
+sys.path.insert(0, str(Path(__file__).parents[2] / "tools"))
+from rules import LARGEST, TOP, bottom_cost, relax, stop, weigh
+from storing import store
 
 
 def answer(two_sided, weight_channel, weight, tolerance, limit, S, c, d, x, k):
@@ -55,9 +27,7 @@ def answer(two_sided, weight_channel, weight, tolerance, limit, S, c, d, x, k):
     cost = bottom_cost(two_sided, S, c, d, x, k)
     cost = weigh(weight if c == weight_channel else 1, cost)
     cost = relax(tolerance, cost)
-    if S * x - k * d > limit:
-        cost = TOP
-    return str(cost)
+    return str(stop(limit, S, d, x, k, cost))
 
 
 def by_hand():
@@ -165,10 +135,8 @@ def main():
         assert answer(*case) == line, (case, line, answer(*case))
         cases.append(case)
     cases += list(at_the_edges()) + list(every_step()) + list(at_random())
-    here = Path(__file__).parent
-    (here / "stdin").write_bytes(b"".join(bytes_of(case) for case in cases))
-    (here / "stdout").write_text("".join(answer(*case) + "\n" for case in cases))
-    print(len(cases), "cases")
+    store(__file__, b"".join(bytes_of(case) for case in cases), [answer(*case) for case in cases])
 
 
-main()
+if __name__ == "__main__":
+    main()

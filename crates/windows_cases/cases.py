@@ -3,50 +3,31 @@
 
 The answers come from the rules as docs/RULES.md states them: the costs of every count at every moment, the smallest
 and the greatest count that is allowed, and the ends of each window by looking at every slot. The lines of the
-formulas are these windows too wherever no moment is blocked, and the formulas' own numbers elsewhere. Nothing here is
-shared with the Rattle code. A case has the penalty (1 byte: 0 for the absolute deviation, 1 for the two-sided, else
+formulas are these windows too wherever no moment is blocked, and the formulas' own numbers elsewhere. Nothing is shared
+with the Rattle code (tools/rules.py). A case has the penalty (1 byte: 0 for the absolute deviation, 1 for the two-sided, else
 the distance from a centre), the bound (8), the centres of slots 0 to 7 (1 each), the number of places (2), the number
 of channels (1), and for each its number (1) and its readings (2), numbers with the high byte first.
 """
 
 import random
+import sys
 from fractions import Fraction
 from itertools import product
-from math import ceil, floor, isqrt
+from math import ceil, floor
 from pathlib import Path
 
-TOP = 2**40 - 1
+sys.path.insert(0, str(Path(__file__).parents[2] / "tools"))
+from rules import TOP, bottom_cost, centred_cost, windows
+from storing import store
+
 MOST_PLACES = 4096
 
 
-def cost(penalty, centres, slots, d, x, k):
-    """The cost of a count on the domain."""
-    q = slots * x - k * d
-    if penalty == 0:
-        return abs(q)
-    if penalty == 1:
-        step = min(255, 8 * abs(q) // slots)
-        return 40 * step if q < 0 else isqrt(1000 * step)
-    return abs(x - (centres[k] if k < 8 else 0))
-
-
-def windows(penalty, centres, bound, table):
-    """The first blocked moment, or the windows of all readings."""
-    slots = sum(table.values())
-    lo, hi = {}, {}
-    for k in range(slots + 1):
-        for c in sorted(table):
-            allowed = [x for x in range(table[c] + 1) if cost(penalty, centres, slots, table[c], x, k) <= bound]
-            if not allowed:
-                return ("MOMENT", k, c)
-            lo[c, k], hi[c, k] = min(allowed), max(allowed)
-    found = []
-    for c in sorted(table):
-        for j in range(1, table[c] + 1):
-            forbidden = [k for k in range(slots + 1) if hi[c, k] < j]
-            needed = [k for k in range(slots + 1) if lo[c, k] >= j]
-            found.append((c, j, 1 + max(forbidden) if forbidden else 1, min(needed) if needed else slots))
-    return found
+def cost_of(penalty, centres):
+    """The cost of a penalty."""
+    if penalty < 2:
+        return lambda S, c, d, x, k: bottom_cost(penalty == 1, S, c, d, x, k)
+    return lambda S, c, d, x, k: centred_cost(centres, x, k)
 
 
 def formula(slots, d, j, bound):
@@ -63,7 +44,7 @@ def answers(penalty, centres, bound, places, table):
     slots = sum(table.values())
     if any(n > 4096 for n in table.values()) or slots > 4096:
         return ["NO TABLE"]
-    found = windows(penalty, centres, bound, table)
+    found = windows(cost_of(penalty, centres), bound, table)
     blocked = isinstance(found, tuple)
     shut = [] if blocked else [w for w in found if w[2] > w[3]]
     if min(places, MOST_PLACES) < slots:
@@ -136,16 +117,20 @@ for penalty, centres, bound, table, line in WORKED:
     assert answers(penalty, centres + [0] * (8 - len(centres)), bound, MOST_PLACES, table)[0] == line
 assert formula(3, 2, 1, 1) == (1, 1) and formula(3, 2, 2, 1) == (3, 3) and formula(3, 1, 1, 1) == (2, 2)
 
-data, lines = bytearray(), []
-for penalty, centres, bound, places, table in cases():
-    data += bytes([penalty]) + bound.to_bytes(8, "big") + bytes(centres) + places.to_bytes(2, "big") + bytes([len(table)])
-    for channel, readings in table.items():
-        data += bytes([channel]) + readings.to_bytes(2, "big")
-    lines += answers(penalty, centres, bound, places, table)
-here = Path(__file__).parent
-(here / "stdin").write_bytes(data)
-(here / "stdout").write_text("".join(line + "\n" for line in lines))
-kinds = {}
-for line in lines:
-    kinds[line.split()[0]] = kinds.get(line.split()[0], 0) + 1
-print(len(lines), "lines:", ", ".join(f"{n} {kind}" for kind, n in sorted(kinds.items())))
+
+def bytes_of(penalty, centres, bound, places, table):
+    """The bytes of a case."""
+    data = bytes([penalty]) + bound.to_bytes(8, "big") + bytes(centres) + places.to_bytes(2, "big") + bytes([len(table)])
+    return data + b"".join(bytes([channel]) + readings.to_bytes(2, "big") for channel, readings in table.items())
+
+
+def main():
+    data, lines = bytearray(), []
+    for case in cases():
+        data += bytes_of(*case)
+        lines += answers(*case)
+    store(__file__, data, lines)
+
+
+if __name__ == "__main__":
+    main()

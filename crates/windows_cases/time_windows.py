@@ -10,6 +10,7 @@ import sys
 from pathlib import Path
 
 sys.path.insert(0, str(Path(__file__).parents[2] / "tools"))
+from cases import bytes_of
 from timing import least_seconds
 
 PROGRAM = Path(__file__).parent / "out" / "windows_cases"
@@ -17,16 +18,10 @@ COPIES = 40
 TABLES = {"64 times 64": [64] * 64, "4,000 and 96": [4000, 96], "skewed": [1] * 32 + [2] * 16 + [16] * 15 + [3792]}
 
 
-def case(readings, bound, places):
-    data = bytearray([0]) + bound.to_bytes(8, "big") + bytes(8) + places.to_bytes(2, "big") + bytes([len(readings)])
-    for channel, n in enumerate(readings):
-        data += bytes([channel]) + n.to_bytes(2, "big")
-    return bytes(data)
-
-
 def seconds(readings, bound, places):
     """The time for all copies."""
-    return least_seconds(PROGRAM, case(readings, bound, places) * COPIES, b"WINDOWS" if places else b"REFUSED PLACES")
+    case = bytes_of(0, bytes(8), bound, places, dict(enumerate(readings)))
+    return least_seconds(PROGRAM, case * COPIES, b"WINDOWS" if places else b"REFUSED PLACES")
 
 
 for name, readings in TABLES.items():

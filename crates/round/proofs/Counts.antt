@@ -1,10 +1,25 @@
 -- Counting the channels of a list, slot by slot.
-use Rattle.std.proofs.Common.{◌≡◌, ℕ, suc, ◌+◌, ◌<◌, ◌≤◌, false, cond, eqb, List, [], ◌∷◌, length, get_or, take, set, replicate, sum, sym, refl, ap, ◌∙◌, ⊎_elim, arith}
+use Rattle.std.proofs.Common.{◌≡◌, ℕ, suc, ◌+◌, ◌<◌, ◌≤◌, false, cond, eqb, List, [], ◌∷◌, length, get_or, take, set, replicate, sum, sum_by, ◌≢◌, sym, refl, ap, ◌∙◌, ⊎_elim, arith}
 use Rattle.std.proofs.lemmas.List.{get_or-replicate, get_or_past, get_or-set_same, get_or-set_other, length-replicate, length-take, take_all, take-take}
 use Rattle.std.proofs.lemmas.List.Sums.{count_by_more_yes, count_by_more_no, count_by-le-length, sum_by-cons, sum_by-take-le}
 use Rattle.std.proofs.lemmas.Bool.{cases_eq, cases_lt, eq-eqb, ne_eqb}
 use Rattle.round.specs.Lists.{readings, Channel, Complete, times, count}
 use Rattle.round.specs.Walk.{Counted}
+
+-- a slot of a channel counts one more of it
+pub count_own : (l : List ℕ) (c k : ℕ) → k < length l → c ≡ get_or l k 0 → count l c (k + 1) ≡ count l c k + 1
+count_own l c k h here = count_by_more_yes (eqb c) l k 0 h (eq-eqb c (get_or l k 0) here)
+
+-- and none of another channel
+pub count_other : (l : List ℕ) (c k : ℕ) → k < length l → c ≢ get_or l k 0 → count l c (k + 1) ≡ count l c k
+count_other l c k h other = count_by_more_no (eqb c) l k 0 h (ne_eqb c (get_or l k 0) other)
+
+-- a sum over the first elements never falls from place to place
+pub sum_by_rises : {X : Type 0} (size : X → ℕ) (xs : List X) (j k : ℕ) → j ≤ k → sum_by size (take j xs) ≤ sum_by size (take k xs)
+sum_by_rises size xs j k h =
+    let part = sum_by-take-le size (take k xs) j in
+    let same = ap (sum_by size) (take-take j k xs h) in
+    omega arith
 
 -- only the numbers of the table are channels
 pub channel_below : (t : List ℕ) (c : ℕ) → Channel t c → c < length t
@@ -23,12 +38,12 @@ counted_more counts l k b h here room old c =
     ⊎_elim
     (λ same.
     let eq : get_or (set counts b (get_or counts b 0 + 1)) c 0 ≡ get_or counts b 0 + 1 = rw same (get_or-set_same counts b (get_or counts b 0 + 1) 0 room) in
-    let yes = count_by_more_yes (eqb c) l k 0 h (eq-eqb c (get_or l k 0) (same ∙ sym here)) in
+    let yes = count_own l c k h (same ∙ sym here) in
     let was = old c in
     let at : get_or counts c 0 ≡ get_or counts b 0 = ap (λ x. get_or counts x 0) same in
     omega arith)
     (λ other.
-    let no = count_by_more_no (eqb c) l k 0 h (ne_eqb c (get_or l k 0) (λ e. other (e ∙ here))) in
+    let no = count_other l c k h (λ e. other (e ∙ here)) in
     get_or-set_other counts b c (get_or counts b 0 + 1) 0 other ∙ old c ∙ sym no)
     (cases_eq c b)
 
@@ -58,7 +73,7 @@ absent t (x ∷ xs) known c none =
 pub complete_known : (t l : List ℕ) → Complete t l → (i : ℕ) → i < length l → Channel t (get_or l i 0)
 complete_known t l whole i h =
     let b = get_or l i 0 in
-    let yes = count_by_more_yes (eqb b) l i 0 h (eq-eqb b b refl) in
+    let yes = count_own l b i h refl in
     let some = sum_by-take-le (λ x. cond (eqb b x) 1 0) l (i + 1) in
     omega (arith, whole.each b)
 
@@ -75,10 +90,7 @@ some_channel (x ∷ xs) h =
 
 -- a count never falls from slot to slot
 pub count_rises : (l : List ℕ) (c j k : ℕ) → j ≤ k → count l c j ≤ count l c k
-count_rises l c j k h =
-    let part = sum_by-take-le (λ x. cond (eqb c x) 1 0) (take k l) j in
-    let same = ap (times c) (take-take j k l h) in
-    omega arith
+count_rises l c j k h = sum_by_rises (λ x. cond (eqb c x) 1 0) l j k h
 
 module _ (t l : List ℕ) (whole : Complete t l) where
   -- no count of a complete list passes the readings of its channel

@@ -1,9 +1,12 @@
 -- Which refusal is reported: a fault that is there, once every check before it has passed.
-use Rattle.std.proofs.Common.{◌≡◌, ℕ, All, ◌+◌, ◌<◌, ◌≤◌, ◌≢◌, List, length, get_or, sum, sym, refl, ◌∙◌, ⊎_elim, arith}
+use Rattle.std.proofs.Common.{◌≡◌, ℕ, All, Ok, Err, Result, IsOk, ◌+◌, ◌<◌, ◌≤◌, ◌≢◌, List, length, get_or, sum, sym, refl, ◌∙◌, ⊎_elim, arith}
 use Rattle.std.proofs.lemmas.List.Sums.{get_or-le-sum_by}
 use Rattle.std.proofs.lemmas.Bool.{cases_eq}
-use Rattle.round.specs.Lists.{readings, Channel, times}
-use Rattle.round.proofs.Counts.{absent, readings_bound, some_channel}
+use Rattle.penalty.specs.Cost.{Cost}
+use Rattle.round.specs.Audit.{Audited}
+use Rattle.round.specs.declared.largest.Largest.{Largest}
+use Rattle.round.specs.Lists.{readings, Channel, Complete, Sound, times}
+use Rattle.round.proofs.Counts.{absent, channel_below, complete_known, readings_bound, some_channel}
 use Rattle.round.specs.Refusals.{Fault, Refused, RowRefused, number, value, turn}
 use Rattle.round.specs.declared.refusal.Refusal.{Refusal}
 use Rattle.round.specs.declared.refusal.Refusal.TheVariants.{RowLength, ReadingsAboveLimit, TotalAboveLimit, NoChannel, ListLength, NotAChannel, WrongCount}
@@ -104,3 +107,20 @@ module _ (t l : List ℕ) (long : length t ≡ 64) (few : sum t ≤ 4096) where
           least ListLength same less f = omega arith
           least (NotAChannel slot) same less f = omega arith
           least (WrongCount channel) same less f = f.1 (before channel less)
+
+-- a complete list of a table with a channel is not refused
+pub sound_complete : (t l : List ℕ) (e : Refusal) → Sound t → Complete t l → Refused t l e → ⊥
+sound_complete t l RowLength sound whole r = r.fault sound.long
+sound_complete t l ReadingsAboveLimit sound whole r =
+    let below = channel_below t r.fault.0 (omega (arith, r.fault.1)) in
+    omega (arith, get_or-le-sum_by (λ x. x) t r.fault.0 0 below, r.fault.1, sound.few)
+sound_complete t l TotalAboveLimit sound whole r = omega (arith, r.fault, sound.few)
+sound_complete t l NoChannel sound whole r = r.fault sound.some.0 sound.some.1
+sound_complete t l ListLength sound whole r = r.fault whole.full
+sound_complete t l (NotAChannel slot) sound whole r = omega (arith, complete_known t l whole r.fault.0 r.fault.2, r.fault.3)
+sound_complete t l (WrongCount channel) sound whole r = r.fault.1 (whole.each channel)
+
+-- so its audit has an answer
+pub audited_ok : (f : Cost) (t l : List ℕ) → Sound t → Complete t l → (r : Result Largest Refusal) → Audited f t l r → IsOk r
+audited_ok f t l sound whole (Ok r) audited = refl
+audited_ok f t l sound whole (Err e) audited = absurd (sound_complete t l e sound whole audited)

@@ -1,6 +1,6 @@
 // The table of readings by channel number.
-ghost use Rattle.std.specs.Prelude.{◌≡◌, ◌<◌, ◌≤◌, All, Any, MatchBool, length, sum};
-ghost use Rattle.round.specs.Lists.{readings};
+ghost use Rattle.std.specs.Prelude.{◌≡◌, ◌+◌, ◌-◌, ◌<◌, ◌≤◌, ◌↔◌, All, Any, IsTrue, MatchBool, cond, count_by, length, nat_lt, replicate, slice_set, sum};
+ghost use Rattle.round.specs.Lists.{readings as d_of};
 
 use crate::refusal::Refusal;
 use penalty::{CHANNELS, LIMIT};
@@ -44,6 +44,42 @@ impl TryFrom<&[u16]> for Readings {
 }
 
 impl Readings {
+    /// A table without a channel.
+    pub fn new() -> Readings
+        ensures { result.by_channel ≡ replicate 64 0 }
+    {
+        Readings {
+            by_channel: [0; CHANNELS],
+            total: 0,
+        }
+    }
+
+    /// Gives a channel number its readings, 0 for no channel, and says whether the table takes them: it changes nothing
+    /// where there is no such number, or where the total would be above 4,096.
+    pub fn set(&mut self, channel: u8, readings: u16) -> bool
+        ensures taken { IsTrue result ↔
+            (channel < 64) × ((sum self.old.by_channel - d_of self.old.by_channel channel) + readings ≤ 4096) }
+        ensures table { self.new.by_channel ≡ cond result (slice_set self.old.by_channel channel readings) self.old.by_channel }
+    {
+        let place = usize::from(channel);
+        if place >= CHANNELS {
+            return false;
+        }
+        let rest = self.total - self.by_channel[place];
+        if readings > LIMIT - rest {
+            return false;
+        }
+        // Both at once, since the total is that of the numbers.
+        let Readings {
+            by_channel,
+            total,
+            ..
+        } = self;
+        by_channel[place] = readings;
+        *total = rest + readings;
+        true
+    }
+
     /// The sum of all readings, which is also the number of slots.
     pub fn total(&self) -> u16
         ensures { result ≡ sum self.now.by_channel }
@@ -51,10 +87,17 @@ impl Readings {
         self.total
     }
 
+    /// How many channels there are.
+    pub fn channels(&self) -> u8
+        ensures { result ≡ count_by (nat_lt 0) self.now.by_channel }
+    {
+        self.by_channel.iter().filter(|&&n| n > 0).count() as u8
+    }
+
     /// The readings of a channel, 0 where it is not in the table.
     // The look-up of `Weights` too: a table for both would have to be taken apart in each clause.
     pub fn of(&self, channel: u8) -> u16
-        ensures { result ≡ readings self.now.by_channel channel }
+        ensures { result ≡ d_of self.now.by_channel channel }
     {
         self.by_channel
             .get(usize::from(channel))

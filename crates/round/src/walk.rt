@@ -16,8 +16,17 @@ pub fn audit<P: Penalty>(penalty: &P, row: &[u16], list: &[u8]) -> Result<Larges
     ensures { Audited (P.cost penalty.now) row.now list.now result }
 {
     let readings = Readings::try_from(row)?;
-    readings.check(list)?;
-    Ok(largest_cost(penalty, &readings, list))
+    readings.audit(penalty, list)
+}
+
+impl Readings {
+    /// The largest cost of a list of these channels, and the first moment that has it.
+    pub fn audit<P: Penalty>(&self, penalty: &P, list: &[u8]) -> Result<Largest, Refusal>
+        ensures { Audited (P.cost penalty.now) self.now.by_channel list.now result }
+    {
+        self.check(list)?;
+        Ok(largest_cost(penalty, self, list))
+    }
 }
 
 // Counts the channels slot by slot, and takes the costs after each slot.

@@ -12,25 +12,25 @@ use Rattle.windows.proofs.Places.{place_rises, reading_at}
 
 module _ (f : Cost) (t : List ℕ) (b c j : ℕ) where
   -- no earliest slot comes before slot 1
-  earliest_from_1 : (e : ℕ) → Earliest f t b c j e → 1 ≤ e
+  pub earliest_from_1 : (e : ℕ) → Earliest f t b c j e → 1 ≤ e
   earliest_from_1 e earliest = ⊎_elim (λ last. omega (arith, last.1)) (λ first. omega (arith, first.0)) earliest
 
   -- no latest slot comes after slot S
-  latest_upto_end : (l : ℕ) → Latest f t b c j l → l ≤ sum t
+  pub latest_upto_end : (l : ℕ) → Latest f t b c j l → l ≤ sum t
   latest_upto_end l latest = ⊎_elim (λ first. first.holds.0) (λ last. omega (arith, last.0)) latest
 
-module _ (f : Cost) (t : List ℕ) (b : ℕ) (few : sum t ≤ 4096) (long : length t ≡ 64) (ws : List Window) (all : AreOpen f t b ws) where
-  -- the record at each place is that of a reading
-  record_at : (i : ℕ) → i < length ws → (c : ℕ) × (j : ℕ) × Reading t c j × (place_of t c j ≡ i) × IsRecord f t b c j (window ws i)
-  record_at i h =
-      let at = reading_at t i (omega (arith, all.windows.long)) in
-      let here = all.windows.each at.0 at.1 at.2 in
-      (at.0, at.1, at.2, at.3, subst (λ (p : ℕ). IsRecord f t b at.0 at.1 (window ws p)) at.3 here)
+-- the record at each place is that of a reading
+pub record_at : (f : Cost) (t : List ℕ) (b : ℕ) (ws : List Window) → AreOpen f t b ws → (i : ℕ) → i < length ws → (c : ℕ) × (j : ℕ) × Reading t c j × (place_of t c j ≡ i) × IsRecord f t b c j (window ws i)
+record_at f t b ws all i h =
+    let at = reading_at t i (omega (arith, all.windows.long)) in
+    let here = all.windows.each at.0 at.1 at.2 in
+    (at.0, at.1, at.2, at.3, subst (λ (p : ℕ). IsRecord f t b at.0 at.1 (window ws p)) at.3 here)
 
-  -- so each record is usable
+module _ (f : Cost) (t : List ℕ) (b : ℕ) (few : sum t ≤ 4096) (long : length t ≡ 64) (ws : List Window) (all : AreOpen f t b ws) where
+  -- each record is usable
   usable : (i : ℕ) → i < length ws → Usable (length ws) (window ws i)
   usable i h =
-      let at = record_at i h in
+      let at = record_at f t b ws all i h in
       let w = window ws i in
       let below = channel_below t at.0 (omega (arith, at.2.0, at.2.1)) in
       record {
@@ -43,8 +43,8 @@ module _ (f : Cost) (t : List ℕ) (b : ℕ) (few : sum t ≤ 4096) (long : leng
   -- and each may stand after the one before it
   follows : (i : ℕ) → i + 1 < length ws → Follows (window ws i) (window ws (i + 1))
   follows i h =
-      let u = record_at i (omega arith) in
-      let v = record_at (i + 1) h in
+      let u = record_at f t b ws all i (omega arith) in
+      let v = record_at f t b ws all (i + 1) h in
       let before = window ws i in
       let after = window ws (i + 1) in
       let next : before.channel ≡ after.channel → (v.0 ≡ u.0) × (u.1 < v.1) = λ same.

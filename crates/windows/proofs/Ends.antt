@@ -8,11 +8,11 @@ use Rattle.windows.specs.Windows.{Earliest, Forbidden, IsWindow, Latest, Needed}
 use Rattle.windows.proofs.Extremes.{Decided, greatest_or_none, greatest_same, least_below, least_exists, least_same}
 
 -- where one of two things can be decided, and where it holds the other, both can
-both_decided : {A B : Type 0} → (A ⊎ (A → ⊥)) → (B ⊎ (B → ⊥)) → (A × B) ⊎ (A × B → ⊥)
+pub both_decided : {A B : Type 0} → (A ⊎ (A → ⊥)) → (B ⊎ (B → ⊥)) → (A × B) ⊎ (A × B → ⊥)
 both_decided a b = ⊎_elim (λ x. ⊎_elim (λ y. inl (x, y)) (λ not. inr (λ p. not p.1)) b) (λ not. inr (λ p. not p.0)) a
 
 -- m ≤ n can be decided
-at_most_decided : (m n : ℕ) → (m ≤ n) ⊎ (m ≤ n → ⊥)
+pub at_most_decided : (m n : ℕ) → (m ≤ n) ⊎ (m ≤ n → ⊥)
 at_most_decided m n = ⊎_elim (λ less. inr (λ h. omega arith)) inl (cases_lt n m)
 
 module _ (f : Cost) (t : List ℕ) (b : ℕ) where

@@ -1,17 +1,14 @@
 // Finds the windows of many tables, case after case on standard input, and prints each answer.
 #![tactic(auto)]
 
-mod centred;
 #[cfg(test)]
 mod tests;
 
-ghost use Rattle.std.specs.Prelude.{◌<◌, length, IfSome};
-
 use cases::{Case, Cases};
-use centred::{CENTRES, Centred};
 use matching::{CHANNELS, LIMIT, Window};
 use penalty::{AbsoluteDeviation, Penalty, TwoSided};
 use round::Readings;
+use sample_penalties::{CENTRES, Centred};
 use std::alloc::Global;
 use std::fmt::Write;
 use std::io::Read;

@@ -1,10 +1,9 @@
 // Windows worked by hand, blocked moments, shut windows, what memory keeps, and how often a penalty is asked.
 use crate::EMPTY;
-use crate::centred::{CENTRES, Centred};
 use matching::{CHANNELS, Window};
-use penalty::{AbsoluteDeviation, LIMIT, Penalty, Question, TOP};
+use penalty::{AbsoluteDeviation, LIMIT, Penalty, TOP};
 use round::Readings;
-use std::cell::Cell;
+use sample_penalties::{CENTRES, Centred, Counting};
 use std::test::Fail;
 use windows::{Moment, Unfilled, fill, steiner_yeomans};
 
@@ -179,44 +178,13 @@ fn formulas(rt: HostRuntime) {
     );
 }
 
-// A penalty, with how often it was asked.
-#[derive(Drop)]
-struct Counting<P> {
-    below: P,
-    asked: Cell<u32>,
-}
-
-impl<P: Penalty> Penalty for Counting<P> {
-    ghost cost = { λ p. P.Penalty.cost p.below };
-
-    ghost depth = { λ p. P.Penalty.depth p.below };
-
-    ghost capped = { λ p. P.Penalty.capped p.below };
-
-    ghost outside = { λ p. P.Penalty.outside p.below };
-
-    ghost valley = { λ p. P.Penalty.valley p.below };
-
-    fn cost(&self, question: Question) -> u64 {
-        self.asked.set(self.asked.get().saturating_add(1));
-        self.below.cost(question)
-    }
-
-    fn depth(&self) -> u8 {
-        self.below.depth()
-    }
-}
-
 // How often the absolute deviation is asked for the windows of 64 channels of 64 readings at a bound.
 fn asked(rt: &HostRuntime, bound: u64) -> Result<u32, Fail> {
-    let counting = Counting {
-        below: AbsoluteDeviation,
-        asked: Cell::new(0),
-    };
+    let counting = Counting::new(AbsoluteDeviation);
     let mut places = vec![in rt.alloc(); EMPTY; usize::from(LIMIT)]?;
     let filled = fill(&counting, &table(&[64; CHANNELS])?, bound, &mut places);
     filled.map_err(|_| Fail::new("no windows"))?;
-    Ok(counting.asked.get())
+    Ok(counting.asked())
 }
 
 // At a bound that allows every count, twice for each of 64 * 4,097 moments. At bound 4,095 once more each time a count goes on by

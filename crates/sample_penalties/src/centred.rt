@@ -1,8 +1,8 @@
-// A penalty of these tests: the distance from a centre that each slot has. The centres may rise and fall, so it is
+// A penalty that tests use: the distance from a centre that each slot has. The centres may rise and fall, so it is
 // lawful, but its windows can be shut.
 ghost use Rattle.std.proofs.Common.{rules};
 ghost use Rattle.penalty.specs.Bottoms.{bottom_valley};
-ghost use Rattle.windows_cases.specs.Centred.{centred, distance, distance_capped, distance_valley};
+ghost use Rattle.sample_penalties.specs.Centred.{centred, distance, distance_capped, distance_valley};
 
 use penalty::{Penalty, Question, TOP};
 

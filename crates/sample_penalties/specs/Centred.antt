@@ -5,7 +5,7 @@ use Rattle.penalty.specs.Bottoms.{PlainValley}
 use Rattle.penalty.specs.Cost.{Capped, Cost, bottom, inside, top}
 use Rattle.penalty.specs.Rising.{either_most}
 
--- the distance, as far as a cost can tell it
+-- the distance of count x from the centre of slot k, at most TOP
 abbrev pub distance : List ℕ → ℕ → ℕ → ℕ → ℕ → ℕ
 distance centres S d x k = min ((x - slice_index centres k) + (slice_index centres k - x)) top
 

@@ -1,0 +1,3 @@
+-- The lemmas of this crate.
+pub mod Playing
+pub mod Rooms

@@ -1,0 +1,2 @@
+-- The penalties that tests use.
+pub mod Centred

@@ -1,2 +1,0 @@
--- The penalty of these tests.
-pub mod Centred

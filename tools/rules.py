@@ -1,0 +1,126 @@
+"""The rules of docs/RULES.md in Python, for the scripts that write cases with their answers.
+
+They are written from the rules alone, slowly and in whole numbers; nothing here is shared with the Rattle code. A cost is a
+function of slots, channel, readings, count and slot; a table is a dictionary of readings by channel number.
+"""
+
+from itertools import permutations
+
+TOP = 2**40 - 1
+LARGEST = 16_777_216
+LIMIT = 4096
+
+
+def root(s):
+    """The largest whole v with v * v <= 1000 * s."""
+    v = 0
+    while (v + 1) * (v + 1) <= 1000 * s:
+        v += 1
+    return v
+
+
+def in_domain(S, c, d, x, k):
+    """Whether a question is in the domain."""
+    return 1 <= S <= LIMIT and 0 <= c <= 63 and 1 <= d <= LIMIT and 0 <= x <= d and 0 <= k <= S
+
+
+def bottom_cost(two_sided, S, c, d, x, k):
+    """The cost of a bottom."""
+    if not in_domain(S, c, d, x, k):
+        return TOP
+    q = S * x - k * d
+    if not two_sided:
+        return abs(q)
+    s = min(255, 8 * abs(q) // S)
+    return 40 * s if q < 0 else root(s)
+
+
+def centred_cost(centres, x, k):
+    """The distance of a count from the centre of its slot, which is 0 past the slots that have one."""
+    return abs(x - (centres[k] if k < len(centres) else 0))
+
+
+def weigh(weight, cost):
+    """The layer weights."""
+    return TOP if cost == TOP else min(weight * cost, TOP - 1)
+
+
+def relax(tolerance, cost):
+    """The layer band."""
+    return TOP if cost == TOP else max(cost - tolerance, 0)
+
+
+def stop(limit, S, d, x, k, cost):
+    """The layer stop."""
+    return TOP if S * x - k * d > limit else cost
+
+
+def windows(cost, bound, table):
+    """The first blocked moment, or the windows of all readings, as channel, reading, earliest and latest."""
+    slots = sum(table.values())
+    lo, hi = {}, {}
+    for k in range(slots + 1):
+        for c in sorted(table):
+            allowed = [x for x in range(table[c] + 1) if cost(slots, c, table[c], x, k) <= bound]
+            if not allowed:
+                return ("MOMENT", k, c)
+            lo[c, k], hi[c, k] = min(allowed), max(allowed)
+    found = []
+    for c in sorted(table):
+        for j in range(1, table[c] + 1):
+            forbidden = [k for k in range(slots + 1) if hi[c, k] < j]
+            needed = [k for k in range(slots + 1) if lo[c, k] >= j]
+            found.append((c, j, 1 + max(forbidden) if forbidden else 1, min(needed) if needed else slots))
+    return found
+
+
+def placement(found):
+    """The slots of the windows by Glover's rule, or None where a reading cannot be placed."""
+    slots = {}
+    for slot in range(1, len(found) + 1):
+        ready = [(l, c, j, i) for i, (c, j, e, l) in enumerate(found) if i not in slots and e <= slot]
+        if not ready or min(ready)[0] < slot:
+            return None
+        slots[min(ready)[3]] = slot
+    return [slots[i] for i in range(len(found))]
+
+
+def list_at(cost, bound, table):
+    """The list at a bound: its kind, and the block, or the channels by slot and the windows with their slots."""
+    found = windows(cost, bound, table)
+    if isinstance(found, tuple):
+        return found
+    for c, j, e, l in found:
+        if e > l:
+            return ("SHUT", c, j, e, l)
+    slots = placement(found)
+    if slots is None:
+        return ("CROWD",)
+    channels = [c for _, c in sorted((s, c) for s, (c, _, _, _) in zip(slots, found))]
+    return ("WITHIN", channels, [(*w, s) for w, s in zip(found, slots)])
+
+
+def largest_cost(cost, table, channels):
+    """The largest cost of a list."""
+    slots = sum(table.values())
+    return max(
+        cost(slots, c, table[c], channels[:k].count(c), k) for k in range(slots + 1) for c in table
+    )
+
+
+def best(cost, table):
+    """The least with its list and the block below it; or nothing with the block below TOP."""
+    slots = sum(table.values())
+    costs = {cost(slots, c, table[c], x, k) for k in range(slots + 1) for c in table for x in range(table[c] + 1)}
+    for bound in sorted({0} | costs):
+        if bound < TOP:
+            made = list_at(cost, bound, table)
+            if made[0] == "WITHIN":
+                return bound, made, list_at(cost, bound - 1, table) if bound else None
+    return None, None, list_at(cost, TOP - 1, table)
+
+
+def least_of_all(cost, table):
+    """The smallest largest cost of any complete list, by trying them all."""
+    readings = [c for c in table for _ in range(table[c])]
+    return min(largest_cost(cost, table, list(order)) for order in set(permutations(readings)))
