@@ -157,34 +157,49 @@ def random_call(rng):
     return kind, c, n, bound, lent if kind >= LIST else (0, 0, 0)
 
 
-def cases():
-    rng = random.Random(20261127)
-    # the worked bridges
+def worked():
+    """The bridges that are worked by hand."""
     for readings in ((1,), (1, 1), (1, 1, 1), (3, 2)):
         yield series(plain(), channels(dict(enumerate(readings))) + [list_call(b) for b in range(4)] + [best_call()])
     for penalty in (plain(weights=(3, 1)), plain(tolerance=1), plain(limit=0), plain(limit=1), plain(bottom=1)):
         yield series(penalty, [add(0, 1), add(1, 1), best_call()])
-    # every table of up to three channels and six readings
+
+
+def every_small_table():
+    """Every table of up to three channels and six readings, under both bottoms."""
     for t in product(range(7), repeat=3):
         if 1 <= sum(t) <= 6:
             table = channels({c: n for c, n in enumerate(t) if n})
             yield series(plain(), table + [best_call(), list_call(sum(t) - 1), list_call(sum(t) // 2)])
             yield series(plain(bottom=1), table + [best_call(), list_call(100), list_call(200)])
-    # piles of layers
+
+
+def piles(rng):
+    """Piles of layers of all kinds."""
     for _ in range(250):
         table = {c: rng.randint(1, 3) for c in rng.sample((0, 1, 2, 63), rng.randint(1, 3))}
         slots = sum(table.values())
         penalty = plain(rng.randint(0, 1), (), (rng.choice((0, 1, 2, 1000)), 1), rng.choice((0, 0, 1, slots)), rng.choice((LARGEST, 0, 1, slots // 2)))
         yield series(penalty, channels(table) + [best_call(), list_call(rng.randint(0, slots)), list_call(TOP - 1)])
-    # centres that rise and fall, under which windows can be shut
+
+
+def shut_windows(rng):
+    """Centres that rise and fall, under which windows can be shut."""
     for _ in range(250):
         table = {c: rng.randint(1, 3) for c in rng.sample(range(64), rng.randint(1, 2))}
         penalty = plain(2, [rng.randint(0, 3) for _ in range(CENTRES)])
         yield series(penalty, channels(table) + [list_call(0), list_call(1), best_call()])
-    # series of calls of all kinds, accepted and refused
+
+
+def mixed(rng):
+    """Calls of all kinds, accepted and refused."""
     for _ in range(250):
-        yield series(plain(rng.randint(0, 1), (), (2, 1), 0, rng.choice((LARGEST, LARGEST, 1))), [random_call(rng) for _ in range(rng.randint(0, 20))])
-    # replies or memory that are just enough, and one less
+        penalty = plain(rng.randint(0, 1), (), (2, 1), 0, rng.choice((LARGEST, LARGEST, 1)))
+        yield series(penalty, [random_call(rng) for _ in range(rng.randint(0, 20))])
+
+
+def at_the_edges():
+    """Replies or memory that are just enough, and one less; the last that is taken and the first that is refused."""
     calls = [add(5, 2), add(6, 1), list_call(1, (3, 64, 3)), best_call((5, 70, 4)), remove(5), best_call((1, 64, 1))]
     room, count = enough(calls), len(calls)
     yield plain(), room, count, calls
@@ -192,15 +207,28 @@ def cases():
         yield plain(), tuple(size - n for size, n in zip(room, less)), count, calls
     yield plain(), room, count - 1, calls
     yield plain(), (0, 0, 0), 0, []
-    # the last that is taken and the first that is refused
     yield series(plain(), [add(0, 4096), add(1, 1), change(0, 4095), add(1, 1), add(2, 1), change(1, 2), remove(0), add(63, 4095), add(64, 1)])
     yield series(plain(), [add(63, 1), add(64, 1), list_call(TOP - 1), list_call(TOP), list_call(2**64 - 1), add(64, 0), add(63, 0), add(63, 4097), change(1, 1), remove(1)])
-    # larger rounds
+
+
+def larger():
+    """Larger rounds."""
     for table in ({0: 12, 1: 5, 2: 1}, {3: 7, 4: 7, 5: 7}, {c: 2 for c in range(8)}, {10: 20, 11: 3}):
         slots = sum(table.values())
         lent = (slots, 64, slots)
         yield series(plain(), channels(table) + [best_call(lent), list_call(slots - 1, lent)])
         yield series(plain(bottom=1), channels(table) + [best_call(lent)])
+
+
+def cases():
+    rng = random.Random(20261127)
+    yield from worked()
+    yield from every_small_table()
+    yield from piles(rng)
+    yield from shut_windows(rng)
+    yield from mixed(rng)
+    yield from at_the_edges()
+    yield from larger()
 
 
 def bytes_of(case):

@@ -10,6 +10,7 @@ use matching::{Crowd, Ready, Unplaced, Window, place};
 use std::alloc::{AllocError, Global};
 use std::fmt::Write;
 use std::io::Read;
+use test_support::is_crowded;
 
 // How many ready places a case may be lent at most.
 const MOST_READY: usize = 80;
@@ -60,20 +61,6 @@ fn windows_of(heap: Global, bytes: &[u8]) -> Result<Vec<Window>, AllocError> {
 fn matched(windows: &mut [Window], ready: u8) -> Result<(), Unplaced> {
     let mut memory = [Ready::default(); MOST_READY];
     place(windows, &mut memory[..usize::from(ready).min(MOST_READY)])
-}
-
-// Whether more windows lie wholly inside the named slots of the round than there are slots, and as many
-// as is said.
-fn is_crowded(windows: &[Window], crowd: Crowd) -> bool {
-    let inside = windows
-        .iter()
-        .filter(|window| window.earliest >= crowd.first && window.latest <= crowd.last)
-        .count();
-    1 <= crowd.first
-        && crowd.first <= crowd.last
-        && usize::from(crowd.last) <= windows.len()
-        && usize::from(crowd.number) == inside
-        && inside > usize::from(crowd.last - crowd.first) + 1
 }
 
 // The line of a case: the slots in the order of the windows, or what else is answered.

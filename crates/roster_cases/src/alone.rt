@@ -1,10 +1,10 @@
 // Each call by itself, in memory of its own.
-use crate::lines::EMPTY;
 use matching::{Ready, Window};
 use penalty::Penalty;
 use roster::{Answer, Call, Refusal, Roster, Sizes};
 use sequencing::{Listed, Outcome};
 use std::alloc::{AllocError, Global};
+use test_support::EMPTY;
 
 // The memory of a series or of a call.
 #[derive(Drop)]

@@ -5,16 +5,8 @@ use roster::{Answer, Call, Refusal};
 use round::Readings;
 use sequencing::{Best, Block, Listed, Outcome};
 use std::fmt::Write;
+use test_support::{EMPTY, is_crowded};
 use windows::{Moment, fill};
-
-// A record that no reading has.
-pub const EMPTY: Window = Window {
-    channel: u8::MAX,
-    reading: 0,
-    earliest: 0,
-    latest: 0,
-    slot: u16::MAX,
-};
 
 /// What the line of a reply needs beside it: the penalty, the channels before the call, and the memory after it.
 #[derive(Clone, Copy)]
@@ -110,7 +102,7 @@ impl<'a, P: Penalty> Context<'a, P> {
                 } = window;
                 write!(line, " SHUT {channel} {reading} {earliest} {latest} {slot}")?;
             }
-            Block::Crowded(crowd) if self.is_crowded(bound, crowd) => write!(line, " CROWD")?,
+            Block::Crowded(crowd) if self.is_crowd(bound, crowd) => write!(line, " CROWD")?,
             Block::Crowded(crowd) => {
                 let Crowd {
                     first,
@@ -123,23 +115,12 @@ impl<'a, P: Penalty> Context<'a, P> {
         Ok(())
     }
 
-    // Whether more windows lie wholly inside the named slots than there are slots, and as many as is said.
-    fn is_crowded(&self, bound: u64, crowd: Crowd) -> bool {
+    // Whether slots are crowded by the windows at a bound.
+    fn is_crowd(&self, bound: u64, crowd: Crowd) -> bool {
         let mut places = [EMPTY; LIMIT as usize];
-        if fill(self.penalty, self.readings, bound, &mut places).is_err() {
-            return false;
-        }
-        let total = self.readings.total();
-        let inside = places
-            .iter()
-            .take(usize::from(total))
-            .filter(|window| window.earliest >= crowd.first && window.latest <= crowd.last)
-            .count();
-        1 <= crowd.first
-            && crowd.first <= crowd.last
-            && crowd.last <= total
-            && usize::from(crowd.number) == inside
-            && inside > usize::from(crowd.last - crowd.first) + 1
+        let total = usize::from(self.readings.total());
+        fill(self.penalty, self.readings, bound, &mut places).is_ok()
+            && is_crowded(&places[..total], crowd)
     }
 }
 

@@ -15,10 +15,10 @@ use penalty::{
 };
 use query::{Bottom, Query, Settings};
 use roster::{Answer, Call, Refusal, Roster, Sizes, play};
-use sample_penalties::Centred;
 use std::alloc::Global;
 use std::fmt::Write;
 use std::io::Read;
+use test_support::Centred;
 
 // The lines of a case under a penalty.
 fn lines_of<P: Penalty + Copy + Drop>(

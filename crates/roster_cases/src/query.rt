@@ -1,8 +1,8 @@
 // A case: the penalty, the replies and the memory of the series, and its calls.
 use cases::Case;
 use roster::{Call, Sizes};
-use sample_penalties::CENTRES;
 use std::alloc::{AllocError, Global};
+use test_support::CENTRES;
 
 // How many bytes a call has: its kind (1), channel (1), readings (2), bound (8), and how many window places (2), ready
 // places (1) and list bytes (2) it is lent.

@@ -1,15 +1,14 @@
 // Worked bridges, the last that is taken and the first that is refused, a series of twenty calls, what memory keeps, and how
 // often best asks its penalty.
-use crate::lines::EMPTY;
 use matching::{Crowd, Ready, Window};
 use penalty::{
     AbsoluteDeviation, Band, LIMIT, Layered, Penalty, Stop, TOP, Threshold, TwoSided, Weights,
 };
 use roster::{Answer, Call, Refusal, Roster, Sizes, play};
 use round::Readings;
-use sample_penalties::Counting;
 use sequencing::{Best, Block, Listed, Outcome, best as best_of};
 use std::test::Fail;
+use test_support::{Counting, EMPTY};
 use windows::Moment;
 
 // A byte that no list has.

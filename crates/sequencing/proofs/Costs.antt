@@ -5,11 +5,7 @@ use Rattle.penalty.specs.Cost.{Capped, Cost, top}
 use Rattle.round.specs.Lists.{Channel, LargestCost, Moment, Within, cost_at}
 use Rattle.round.proofs.Counts.{channel_below}
 use Rattle.windows.proofs.Ends.{at_most_decided, both_decided}
-use Rattle.windows.proofs.Extremes.{Decided, least_below, least_exists}
-
--- where it can be decided of each number, a number below n is found of which P holds, or there is none
-find_below : (P : ℕ → Type 0) → Decided P → (n : ℕ) → ((m : ℕ) × P m) ⊎ ((m : ℕ) → m < n → P m → ⊥)
-find_below P decided n = ⊎_elim (λ found. inl (found.0, found.1.holds)) inr (least_below P decided n)
+use Rattle.windows.proofs.Extremes.{Decided, find_below, least_exists}
 
 module _ (f : Cost) (t l : List ℕ) where
   -- a moment that costs more than b

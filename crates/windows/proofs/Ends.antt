@@ -5,7 +5,7 @@ use Rattle.penalty.specs.Cost.{Cost, Valley}
 use Rattle.round.specs.Lists.{Channel, Moment, readings}
 use Rattle.windows.specs.Allowed.{Allowed, Blocked, Highest, Lowest, NoneBlocked}
 use Rattle.windows.specs.Windows.{Earliest, Forbidden, IsWindow, Latest, Needed}
-use Rattle.windows.proofs.Extremes.{Decided, greatest_or_none, greatest_same, least_below, least_exists, least_same}
+use Rattle.windows.proofs.Extremes.{Decided, find_below, greatest_or_none, greatest_same, least_below, least_exists, least_same}
 
 -- where one of two things can be decided, and where it holds the other, both can
 pub both_decided : {A B : Type 0} → (A ⊎ (A → ⊥)) → (B ⊎ (B → ⊥)) → (A × B) ⊎ (A × B → ⊥)
@@ -39,9 +39,9 @@ module _ (f : Cost) (t : List ℕ) (b : ℕ) where
   -- a moment that is not blocked has an allowed count
   pub some_allowed : (k c : ℕ) → Moment t k c → (Blocked f t b k c → ⊥) → (x : ℕ) × Allowed f t b k c x
   some_allowed k c moment unblocked =
-      ⊎_elim (λ found. (found.0, found.1.holds))
+      ⊎_elim (λ found. found)
       (λ no. absurd (unblocked (record { moment = moment; none = λ x a. no x (omega (arith, a.0)) a })))
-      (least_below (Allowed f t b k c) (allowed_decided k c) (suc (readings t c)))
+      (find_below (Allowed f t b k c) (allowed_decided k c) (suc (readings t c)))
 
   module _ (c : ℕ) where
     -- what forbids a reading forbids the later ones

@@ -34,6 +34,10 @@ module _ (P : ℕ → Type 0) where
         (decided n))
         (least_below n)
 
+    -- so below n there is a number of which it holds, or none
+    pub find_below : (n : ℕ) → ((m : ℕ) × P m) ⊎ ((m : ℕ) → m < n → P m → ⊥)
+    find_below n = ⊎_elim (λ found. inl (found.0, found.1.holds)) inr (least_below n)
+
     -- where it holds at n, there is a least number
     pub least_exists : (n : ℕ) → P n → (m : ℕ) × IsLeast P m
     least_exists n p = ⊎_elim (λ found. found) (λ none. absurd (none n (omega arith) p)) (least_below (suc n))

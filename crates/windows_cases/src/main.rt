@@ -8,23 +8,14 @@ use cases::{Case, Cases};
 use matching::{CHANNELS, LIMIT, Window};
 use penalty::{AbsoluteDeviation, Penalty, TwoSided};
 use round::Readings;
-use sample_penalties::{CENTRES, Centred};
 use std::alloc::Global;
 use std::fmt::Write;
 use std::io::Read;
+use test_support::{CENTRES, Centred, EMPTY};
 use windows::{Moment, Unfilled, fill, steiner_yeomans};
 
 // How many places a case may be lent at most.
 const MOST_PLACES: usize = LIMIT as usize;
-
-// A record that no reading has.
-const EMPTY: Window = Window {
-    channel: u8::MAX,
-    reading: 0,
-    earliest: 0,
-    latest: 0,
-    slot: u16::MAX,
-};
 
 // How many bytes a channel has: its number (1) and its readings (2).
 const CHANNEL_BYTES: usize = 3;

@@ -1,10 +1,9 @@
 // Windows worked by hand, blocked moments, shut windows, what memory keeps, and how often a penalty is asked.
-use crate::EMPTY;
 use matching::{CHANNELS, Window};
 use penalty::{AbsoluteDeviation, LIMIT, Penalty, TOP};
 use round::Readings;
-use sample_penalties::{CENTRES, Centred, Counting};
 use std::test::Fail;
+use test_support::{CENTRES, Centred, Counting, EMPTY};
 use windows::{Moment, Unfilled, fill, steiner_yeomans};
 
 // The table of channels 0, 1 and so on with these readings.

@@ -2,7 +2,7 @@
 // lawful, but its windows can be shut.
 ghost use Rattle.std.proofs.Common.{rules};
 ghost use Rattle.penalty.specs.Bottoms.{bottom_valley};
-ghost use Rattle.sample_penalties.specs.Centred.{centred, distance, distance_capped, distance_valley};
+ghost use Rattle.test_support.specs.Centred.{centred, distance, distance_capped, distance_valley};
 
 use penalty::{Penalty, Question, TOP};
 

@@ -1,8 +1,10 @@
-// Penalties that only tests use.
+// What the tests and the programs of many cases share.
 #![tactic(auto)]
 
 mod centred;
 mod counting;
+mod windows;
 
 pub use centred::{CENTRES, Centred};
 pub use counting::Counting;
+pub use windows::{EMPTY, is_crowded};
