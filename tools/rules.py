@@ -4,6 +4,7 @@ They are written from the rules alone, slowly and in whole numbers; nothing here
 function of slots, channel, readings, count and slot; a table is a dictionary of readings by channel number.
 """
 
+from heapq import heappop, heappush
 from itertools import permutations
 
 TOP = 2**40 - 1
@@ -55,39 +56,72 @@ def stop(limit, S, d, x, k, cost):
     return TOP if S * x - k * d > limit else cost
 
 
-def windows(cost, bound, table):
-    """The first blocked moment, or the windows of all readings, as channel, reading, earliest and latest."""
+def windows(cost, bound, table, like=lambda c: c):
+    """The first blocked moment, or the windows of all readings, as channel, reading, earliest and latest.
+
+    `like(c)` may name a channel with the same costs and readings as c, so that these are looked at once.
+    """
     slots = sum(table.values())
     lo, hi = {}, {}
     for k in range(slots + 1):
         for c in sorted(table):
-            allowed = [x for x in range(table[c] + 1) if cost(slots, c, table[c], x, k) <= bound]
-            if not allowed:
-                return ("MOMENT", k, c)
-            lo[c, k], hi[c, k] = min(allowed), max(allowed)
-    found = []
-    for c in sorted(table):
+            if like(c) == c:
+                allowed = [x for x in range(table[c] + 1) if cost(slots, c, table[c], x, k) <= bound]
+                if not allowed:
+                    return ("MOMENT", k, c)
+                lo[c, k], hi[c, k] = min(allowed), max(allowed)
+    ends = {}
+    for c in table:
         for j in range(1, table[c] + 1):
-            forbidden = [k for k in range(slots + 1) if hi[c, k] < j]
-            needed = [k for k in range(slots + 1) if lo[c, k] >= j]
-            found.append((c, j, 1 + max(forbidden) if forbidden else 1, min(needed) if needed else slots))
-    return found
+            if like(c) == c:
+                forbidden = [k for k in range(slots + 1) if hi[c, k] < j]
+                needed = [k for k in range(slots + 1) if lo[c, k] >= j]
+                ends[c, j] = (1 + max(forbidden) if forbidden else 1, min(needed) if needed else slots)
+    return [(c, j, *ends[like(c), j]) for c in sorted(table) for j in range(1, table[c] + 1)]
+
+
+def placed(found):
+    """The slots of the windows by Glover's rule, as far as readings can be placed, and the slot where none can."""
+    opens = {}
+    for i, (_, _, e, _) in enumerate(found):
+        opens.setdefault(e, []).append(i)
+    slots, ready = {}, []
+    for slot in range(1, len(found) + 1):
+        for i in opens.get(slot, []):
+            c, j, _, l = found[i]
+            heappush(ready, (l, c, j, i))
+        if not ready or ready[0][0] < slot:
+            return slots, slot
+        slots[heappop(ready)[3]] = slot
+    return slots, None
 
 
 def placement(found):
     """The slots of the windows by Glover's rule, or None where a reading cannot be placed."""
-    slots = {}
-    for slot in range(1, len(found) + 1):
-        ready = [(l, c, j, i) for i, (c, j, e, l) in enumerate(found) if i not in slots and e <= slot]
-        if not ready or min(ready)[0] < slot:
-            return None
-        slots[min(ready)[3]] = slot
-    return [slots[i] for i in range(len(found))]
+    slots, failed = placed(found)
+    return None if failed else [slots[i] for i in range(len(found))]
 
 
-def list_at(cost, bound, table):
+def crowd(found):
+    """Crowded slots of windows that have no placement, with their number.
+
+    Where no reading is ready for slot t, all that are left lie after it. Else the first that is ready is late: with those
+    that stand after the last slot of a later reading, it has to stand in the slots from there to t - 1.
+    """
+    slots, t = placed(found)
+    left = [i for i in range(len(found)) if i not in slots]
+    if not any(found[i][2] <= t for i in left):
+        a, b = t + 1, len(found)
+    else:
+        a, b = 1 + max((s for i, s in slots.items() if found[i][3] > t - 1), default=0), t - 1
+    number = sum(a <= e and l <= b for _, _, e, l in found)
+    assert number > b - a + 1
+    return a, b, number
+
+
+def list_at(cost, bound, table, like=lambda c: c):
     """The list at a bound: its kind, and the block, or the channels by slot and the windows with their slots."""
-    found = windows(cost, bound, table)
+    found = windows(cost, bound, table, like)
     if isinstance(found, tuple):
         return found
     for c, j, e, l in found:
@@ -95,17 +129,19 @@ def list_at(cost, bound, table):
             return ("SHUT", c, j, e, l)
     slots = placement(found)
     if slots is None:
-        return ("CROWD",)
+        return ("CROWD", *crowd(found))
     channels = [c for _, c in sorted((s, c) for s, (c, _, _, _) in zip(slots, found))]
     return ("WITHIN", channels, [(*w, s) for w, s in zip(found, slots)])
 
 
 def largest_cost(cost, table, channels):
     """The largest cost of a list."""
-    slots = sum(table.values())
-    return max(
-        cost(slots, c, table[c], channels[:k].count(c), k) for k in range(slots + 1) for c in table
-    )
+    slots, counts = sum(table.values()), dict.fromkeys(table, 0)
+    largest = max(cost(slots, c, table[c], 0, 0) for c in table)
+    for k, channel in enumerate(channels, 1):
+        counts[channel] += 1
+        largest = max(largest, *(cost(slots, c, table[c], counts[c], k) for c in table))
+    return largest
 
 
 def best(cost, table):

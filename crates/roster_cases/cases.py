@@ -72,7 +72,8 @@ def shown(made):
     if made[0] == "WITHIN":
         _, channels, rows = made
         return "".join(f" {c}" for c in channels) + "".join(f" {c}:{j}:{e}-{l}@{s}" for c, j, e, l, s in rows)
-    return " " + " ".join(str(part) for part in made) + (" 0" if made[0] == "SHUT" else "")
+    shown = made[:1] if made[0] == "CROWD" else made
+    return " " + " ".join(str(part) for part in shown) + (" 0" if made[0] == "SHUT" else "")
 
 
 def reply(cost, book, call):

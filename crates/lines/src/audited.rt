@@ -1,65 +1,49 @@
-// The line that the audit prints.
-ghost use Rattle.std.specs.Prelude.{◌≡◌, ◌+◌, ◌≤◌, [], ◌∷◌, ◌++◌, length};
-ghost use Rattle.arrayvec.specs.ArrayString.{array_string_len};
-ghost use Rattle.lines.specs.Text.{Written, field};
-ghost use Rattle.lines.specs.Audited.{audit_text, largest_text, refusal_text};
+// What an audit answers, as lines show it.
+ghost use Rattle.std.specs.Prelude.{◌≡◌, ◌+◌, ◌≤◌, ◌++◌};
+ghost use Rattle.arrayvec.specs.ArrayVec.{array_vec_len};
+ghost use Rattle.lines.specs.Lines.{audited_text};
 
-use arrayvec::ArrayString;
-use itoa::Buffer;
-use round::{Largest, Refusal};
+use crate::text::{Text, push_field, push_short};
 
-/// How many bytes of memory a line is given.
-pub const LINE_BYTES: usize = 96;
-
-/// Writes the line of an audit at the start of the memory, and answers its length.
-// Memory and a length, and no text by value: docs/RULES.md has the caller lend the memory.
-pub fn audit_line(memory: &mut [u8; LINE_BYTES], answer: Result<Largest, Refusal>) -> usize
-    ensures { Written (audit_text answer) memory.old memory.new result }
-{
-    let line = match answer {
-        Ok(largest) => largest_line(largest),
-        Err(refusal) => refusal_line(refusal),
-    };
-    let text = line.as_bytes();
-    memory[..text.len()].copy_from_slice(text);
-    text.len()
+/// The answer of an audit.
+#[derive(Clone, Copy, PartialEq, Eq, Debug)]
+pub enum Audited {
+    /// The largest cost, with its moment.
+    Largest { cost: u64, slot: u16, channel: u8 },
+    /// It is refused.
+    Refused { number: u8 },
+    /// It is refused, and for which slot.
+    RefusedSlot { number: u8, slot: u16 },
+    /// It is refused, and for which channel.
+    RefusedChannel { number: u8, channel: u8 },
 }
 
-// The line of a largest cost.
-fn largest_line(largest: Largest) -> ArrayString<LINE_BYTES>
-    ensures { result.bytes ≡ largest_text largest }
-{
-    let mut line = ArrayString::new();
-    push_field(&mut line, "LARGEST ", largest.cost);
-    push_field(&mut line, " MOMENT ", u64::from(largest.slot));
-    push_field(&mut line, " ", u64::from(largest.channel));
-    line.push_str("\n");
-    line
-}
-
-// The line of a refusal.
-fn refusal_line(refusal: Refusal) -> ArrayString<LINE_BYTES>
-    ensures { result.bytes ≡ refusal_text refusal }
-{
-    let mut line = ArrayString::new();
-    push_field(&mut line, "REFUSED ", u64::from(refusal.number()));
-    match refusal {
-        Refusal::NotAChannel { slot } => push_field(&mut line, " SLOT ", u64::from(slot)),
-        Refusal::WrongCount { channel } => push_field(&mut line, " CHANNEL ", u64::from(channel)),
-        _ => (),
+impl Audited {
+    // Appends the answer to an empty text.
+    pub(crate) fn push(self, text: &mut Text)
+        requires { array_vec_len text.old ≡ 0 }
+        ensures bytes { text.new.items ≡ text.old.items ++ audited_text self }
+        ensures long { array_vec_len text.new ≤ 95 }
+    {
+        match self {
+            Audited::Largest {
+                cost,
+                slot,
+                channel,
+            } => {
+                push_field(text, "LARGEST ", cost);
+                push_short(text, " MOMENT ", slot);
+                push_short(text, " ", u16::from(channel));
+            }
+            Audited::Refused { number } => push_short(text, "REFUSED ", u16::from(number)),
+            Audited::RefusedSlot { number, slot } => {
+                push_short(text, "REFUSED ", u16::from(number));
+                push_short(text, " SLOT ", slot);
+            }
+            Audited::RefusedChannel { number, channel } => {
+                push_short(text, "REFUSED ", u16::from(number));
+                push_short(text, " CHANNEL ", u16::from(channel));
+            }
+        }
     }
-    line.push_str("\n");
-    line
-}
-
-// Appends a word and a number, of at most 20 digits, after it.
-// No `write!` here: its contract says nothing where it fails, and a line is owed for every answer.
-fn push_field(line: &mut ArrayString<LINE_BYTES>, word: &str, n: u64)
-    requires { array_string_len line.old + (length word.now + 20) ≤ LINE_BYTES }
-    ensures bytes { line.new.bytes ≡ line.old.bytes ++ field word.now n }
-    ensures bound { array_string_len line.new ≤ array_string_len line.old + (length word.now + 20) }
-{
-    let mut digits = Buffer::new();
-    line.push_str(word);
-    line.push_str(digits.format(n));
 }

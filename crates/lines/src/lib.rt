@@ -1,6 +1,16 @@
-// What the programs print: lines in memory that the caller lends.
+// What the programs print: lines, each written in memory that the caller lends.
 #![tactic(auto)]
 
 mod audited;
+mod block;
+mod digits;
+mod line;
+mod reading;
+mod refusal;
+mod text;
 
-pub use audited::{LINE_BYTES, audit_line};
+pub use audited::Audited;
+pub use block::Block;
+pub use line::{LINE_BYTES, Line};
+pub use reading::Reading;
+pub use refusal::ShortMemory;

@@ -41,6 +41,14 @@ impl TryFrom<u32> for Threshold {
 }
 
 impl Threshold {
+    /// The least one, 0.
+    pub const LEAST: Threshold = Threshold { value: 0 };
+
+    /// The largest one, 16,777,216.
+    pub const LARGEST: Threshold = Threshold {
+        value: LARGEST_SIZE,
+    };
+
     /// The number itself.
     // No `From`: `u32::from(threshold)` would be no plainer than `threshold.value()`.
     pub fn value(self) -> u32

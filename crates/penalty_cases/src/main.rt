@@ -9,9 +9,9 @@ ghost use Rattle.std.specs.Prelude.{◌<◌, length, IfSome};
 
 use cases::{Case, Cases};
 use penalty::{
-    AbsoluteDeviation, Band, Question, SettingRefusal, Stop, Threshold, TwoSided, Weights,
+    AbsoluteDeviation, Band, Layers, Question, SettingRefusal, Stop, Threshold, TwoSided, Weights,
 };
-use pile::{Layers, pile_cost};
+use pile::pile_cost;
 use std::io;
 use std::io::Read;
 

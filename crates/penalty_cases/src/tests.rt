@@ -4,8 +4,8 @@ ghost use Rattle.penalty.specs.Cost.{bottom};
 ghost use Rattle.std.proofs.Common.{rules};
 
 use penalty::{
-    AbsoluteDeviation, Band, Layer, Layered, Penalty, Question, SettingRefusal, Stop, TOP,
-    Threshold, TwoSided, Weights,
+    AbsoluteDeviation, Band, Layer, Layered, Layers, Penalty, Pile, Question, SettingRefusal, Stop,
+    TOP, Threshold, TwoSided, Weights,
 };
 use round::{Largest, Refusal, audit};
 use std::test::Fail;
@@ -81,13 +81,13 @@ fn three_to_one() -> Result<Weights, SettingRefusal> {
 }
 
 // Stop over band 1 over weights 3 and 1 over a penalty.
-fn pile<P: Penalty + Drop>(
-    below: P,
-    limit: u32,
-) -> Result<Layered<Layered<Layered<P, Weights>, Band>, Stop>, SettingRefusal> {
-    let weighted = Layered::over(below, three_to_one()?);
-    let banded = Layered::over(weighted, band(1)?);
-    Ok(Layered::over(banded, stop(limit)?))
+fn pile<P: Penalty + Drop>(below: P, limit: u32) -> Result<Pile<P>, SettingRefusal> {
+    let layers = Layers {
+        weights: three_to_one()?,
+        band: band(1)?,
+        stop: stop(limit)?,
+    };
+    Ok(layers.over(below))
 }
 
 // The audit of readings 1 and 1.

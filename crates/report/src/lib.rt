@@ -2,6 +2,7 @@
 #![tactic(auto)]
 
 mod input;
+mod line;
 mod whole;
 
 pub use lines::LINE_BYTES;

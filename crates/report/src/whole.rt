@@ -3,7 +3,8 @@ ghost use Rattle.penalty.specs.Absolute.{absolute};
 ghost use Rattle.report.specs.Report.{Reported};
 
 use crate::input::{list_of, row_of};
-use lines::{LINE_BYTES, audit_line};
+use crate::line::line_of;
+use lines::LINE_BYTES;
 use penalty::{AbsoluteDeviation, Penalty};
 use round::audit;
 
@@ -15,7 +16,7 @@ pub fn report<P: Penalty>(penalty: &P, input: &[u8], memory: &mut [u8; LINE_BYTE
 {
     let row = row_of(input);
     let answer = audit(penalty, &row, list_of(input));
-    audit_line(memory, answer)
+    line_of(answer).write(memory).unwrap()
 }
 
 /// The same under the absolute deviation.

@@ -84,7 +84,7 @@ pub record PlayedTo (f : Cost) (calls : List Call) (rs rs' : List Reply) (m m' :
   pub list_rest : drop start.list m'.list ≡ drop start.list m.list
 
 -- the book after one call more
-after_more : (t : List ℕ) (calls : List Call) (i : ℕ) → i < length calls → after t (take (i + 1) calls) ≡ next (after t (take i calls)) (call_at calls i)
+pub after_more : (t : List ℕ) (calls : List Call) (i : ℕ) → i < length calls → after t (take (i + 1) calls) ≡ next (after t (take i calls)) (call_at calls i)
 after_more t [] i h = absurd (omega arith)
 after_more t (call ∷ calls) zero h = refl
 after_more t (call ∷ calls) (suc i) h =

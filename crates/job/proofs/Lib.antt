@@ -1,0 +1,3 @@
+-- The lemmas of this crate.
+pub mod Adding
+pub mod Numbers

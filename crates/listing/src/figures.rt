@@ -1,0 +1,11 @@
+// The figure of a least bound.
+ghost use Rattle.std.specs.Prelude.{◌*◌, ◌^◌, ◌<◌, SomeIff};
+ghost use Rattle.listing.specs.Answers.{figure_of};
+
+/// The figure of a least bound in a round of so many slots: a hundred times the least, divided by the slots, rounded down.
+/// Nothing where there is no slot, or where a hundred times the least is no number of 64 bits.
+pub fn figure(least: u64, slots: u16) -> Option<u64>
+    ensures { SomeIff result ((0 < slots) × (100 * least < 2 ^ 64)) (figure_of least slots) }
+{
+    least.checked_mul(100)?.checked_div(u64::from(slots))
+}
