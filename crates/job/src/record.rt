@@ -55,15 +55,15 @@ impl Record {
                 (Record::Weight { channel, weight }, rest)
             }
             TOLERANCE => {
-                let (tolerance, rest) = split_word(body)?;
+                let (tolerance, rest) = split_u32(body)?;
                 (Record::Tolerance { tolerance }, rest)
             }
             LIMIT => {
-                let (limit, rest) = split_word(body)?;
+                let (limit, rest) = split_u32(body)?;
                 (Record::Limit { limit }, rest)
             }
             LIST => {
-                let (bound, rest) = split_long(body)?;
+                let (bound, rest) = split_u64(body)?;
                 (Record::List { bound }, rest)
             }
             BEST => (Record::Best, body),
@@ -86,7 +86,7 @@ fn split_channel(body: &[u8]) -> Result<(u8, u16, &[u8]), RecordFault>
 }
 
 // The same for a number of four bytes.
-fn split_word(body: &[u8]) -> Result<(u32, &[u8]), RecordFault>
+fn split_u32(body: &[u8]) -> Result<(u32, &[u8]), RecordFault>
     ensures { MatchResult result (λ parts. BeginsNumber 4 body.now parts.0 parts.1.now) (IsCutShort 4 body.now) }
 {
     let [n3, n2, n1, n0, rest @ ..] = body else {
@@ -96,7 +96,7 @@ fn split_word(body: &[u8]) -> Result<(u32, &[u8]), RecordFault>
 }
 
 // The same for a number of eight bytes.
-fn split_long(body: &[u8]) -> Result<(u64, &[u8]), RecordFault>
+fn split_u64(body: &[u8]) -> Result<(u64, &[u8]), RecordFault>
     ensures { MatchResult result (λ parts. BeginsNumber 8 body.now parts.0 parts.1.now) (IsCutShort 8 body.now) }
 {
     let [n7, n6, n5, n4, n3, n2, n1, n0, rest @ ..] = body else {
