@@ -33,10 +33,10 @@ fn main(rt: HostRuntime) -> io::Result<()> {
 #[cfg(test)]
 mod tests {
     use penalty::{AbsoluteDeviation, Penalty, Question, TOP};
-    use round::{Largest, Refusal, audit};
+    use round::{CostedMoment, Refusal, audit};
 
     // The audit of readings for channels 0 and 1.
-    fn audited(first: u16, second: u16, list: &[u8]) -> Result<Largest, Refusal> {
+    fn audited(first: u16, second: u16, list: &[u8]) -> Result<CostedMoment, Refusal> {
         let mut row = [0; 64];
         row[0] = first;
         row[1] = second;
@@ -45,13 +45,13 @@ mod tests {
 
     #[test]
     fn audits(rt: HostRuntime) {
-        let even = Largest {
+        let even = CostedMoment {
             cost: 1,
             slot: 1,
             channel: 0,
         };
         assert_eq!(rt; audited(2, 1, &[0, 1, 0]), Ok(even));
-        let uneven = Largest {
+        let uneven = CostedMoment {
             cost: 2,
             slot: 2,
             channel: 0,

@@ -2,3 +2,5 @@
 pub mod Exchanges
 pub mod Sifts
 pub mod Kept
+pub mod Offers
+pub mod Selecting

@@ -1,6 +1,6 @@
 -- What a heap keeps, and what its calls change. The heap keeps the first n elements of the memory xs; leq x y says
 -- that x may come out before y.
-use Rattle.std.specs.Prelude.{◌≡◌, ℕ, ◌+◌, ◌*◌, ◌<◌, ◌≤◌, Bool, true, List, ◌∷◌, length, take, drop, slice_index_or}
+use Rattle.std.specs.Prelude.{◌≡◌, ℕ, ◌+◌, ◌*◌, ◌<◌, ◌≤◌, ◌⊎◌, Bool, true, List, [], ◌∷◌, ◌++◌, length, take, drop, min, slice_index_or}
 use Rattle.std.specs.List.Sorted.{IsPermutation}
 use Rattle.std.specs.List.{AllByRecursion}
 
@@ -57,3 +57,28 @@ pub record Popped {X : Type 0} (leq : X → X → Bool) (x : X) (xs : List X) (n
   pub kept : IsPermutation (take n xs) (x ∷ take m ys)
   pub rest : drop n ys ≡ drop n xs
   pub long : length ys ≡ length xs
+
+-- where no place is left, x is offered and y gives way: it is x, which may come out before all that is kept, and nothing has
+-- changed; or it was the first and may come out before x, and x is kept in its stead
+pub record GivesWay {X : Type 0} (leq : X → X → Bool) (x y : X) (xs : List X) (n : ℕ) (ys : List X) (m : ℕ) : Type 0 where
+  pub full : n ≡ length xs
+  pub one : ((y ≡ x) × AllByRecursion (λ z. leq x z ≡ true) (take n xs) × Unchanged xs n ys m)
+      ⊎ (First leq y xs n × (leq y x ≡ true) × (m ≡ n) × IsPermutation (x ∷ take n xs) (y ∷ take m ys) × (length ys ≡ length xs))
+
+-- each of these may come out before all after it
+abbrev pub InOrder : {X : Type 0} → (X → X → Bool) → List X → Type 0
+InOrder leq [] = Unit {0}
+InOrder leq (x ∷ xs) = AllByRecursion (λ y. leq x y ≡ true) xs × InOrder leq xs
+
+-- of a heap that keeps ks, xs may come out, one after another up to the last: they are the same elements, in their order
+pub record MayLeave {X : Type 0} (leq : X → X → Bool) (ks xs : List X) : Type 0 where
+  pub same : IsPermutation ks xs
+  pub order : InOrder leq xs
+
+-- of the elements ms, xs are the last n in the order, or all where they are fewer: xs and what is left out are ms in some order,
+-- and each that is left out may come out before each of xs
+pub record AreLast {X : Type 0} (leq : X → X → Bool) (ms : List X) (n : ℕ) (xs : List X) : Type 0 where
+  pub left_out : List X
+  pub all : IsPermutation (xs ++ left_out) ms
+  pub last : AllByRecursion (λ y. AllByRecursion (λ x. leq y x ≡ true) xs) left_out
+  pub many : length xs ≡ min n (length ms)

@@ -1,6 +1,6 @@
 // The heap over lent memory.
-ghost use Rattle.std.specs.Prelude.{◌≡◌, length, IfNone, IfSome, OnErr, OnOk};
-ghost use Rattle.heap.specs.Heaps.{Sound, First, Pushed, Popped, Unchanged};
+ghost use Rattle.std.specs.Prelude.{◌≡◌, List, [], ◌∷◌, length, take, IfNone, IfSome, MatchOption, OnErr, OnOk};
+ghost use Rattle.heap.specs.Heaps.{Sound, First, GivesWay, MayLeave, Pushed, Popped, Unchanged};
 
 use crate::order::Ordered;
 use crate::sift::{sift_up, take_front};
@@ -32,6 +32,15 @@ impl<'a, T: Ordered> Heap<'a, T> {
         }
     }
 
+    /// Keeps nothing any more. It leaves the memory as it is.
+    pub fn clear(&mut self)
+        ensures named { self.new.items.ghost_name ≡ self.old.items.ghost_name }
+        ensures none { self.new.len ≡ 0 }
+        ensures untouched { self.new.items.now ≡ self.old.items.now }
+    {
+        self.len = 0;
+    }
+
     /// Keeps one element more, or refuses it where no place is left.
     pub fn push(&mut self, x: T) -> Result<(), Full>
         ensures named { self.new.items.ghost_name ≡ self.old.items.ghost_name }
@@ -48,11 +57,36 @@ impl<'a, T: Ordered> Heap<'a, T> {
         Ok(())
     }
 
+    /// Keeps one element more. Where no place is left, one of all that are kept and this one gives way, which may come out before
+    /// those that stay; it is answered.
+    pub fn offer(&mut self, x: T) -> Option<T>
+        ensures named { self.new.items.ghost_name ≡ self.old.items.ghost_name }
+        ensures long { length self.new.items.now ≡ length self.old.items.now }
+        ensures offered { MatchOption result (Pushed x self.old.items.now self.old.len self.new.items.now self.new.len)
+            (λ y. GivesWay T.leq x y self.old.items.now self.old.len self.new.items.now self.new.len) }
+    {
+        if self.push(x).is_ok() {
+            return None;
+        }
+        // Memory without a place keeps nothing.
+        let Some(first) = self.first() else {
+            return Some(x);
+        };
+        if !first.leq(&x) {
+            return Some(x);
+        }
+        let out = self.pop().unwrap();
+        self.push(x).unwrap();
+        Some(out)
+    }
+
     /// Takes out the element that `first` shows; nothing where none is kept.
     pub fn pop(&mut self) -> Option<T>
         ensures named { self.new.items.ghost_name ≡ self.old.items.ghost_name }
         ensures popped { IfSome result (λ x. Popped T.leq x self.old.items.now self.old.len self.new.items.now self.new.len) }
         ensures none { IfNone result ((self.old.len ≡ 0) × Unchanged self.old.items.now self.old.len self.new.items.now self.new.len) }
+        ensures order { MatchOption result (MayLeave T.leq (take self.old.len self.old.items.now) [])
+            (λ x. (xs : List T) → MayLeave T.leq (take self.new.len self.new.items.now) xs → MayLeave T.leq (take self.old.len self.old.items.now) (x ∷ xs)) }
     {
         let last = self.len.checked_sub(1)?;
         self.len = last;

@@ -7,7 +7,7 @@ use penalty::{
     AbsoluteDeviation, Band, Layer, Layered, Layers, Penalty, Pile, Question, SettingRefusal, Stop,
     TOP, Threshold, TwoSided, Weights,
 };
-use round::{Largest, Refusal, audit};
+use round::{CostedMoment, Refusal, audit};
 use std::test::Fail;
 
 // A bottom of one cost and a depth of its own, for costs and depths that the bottoms do not reach.
@@ -91,7 +91,7 @@ fn pile<P: Penalty + Drop>(below: P, limit: u32) -> Result<Pile<P>, SettingRefus
 }
 
 // The audit of readings 1 and 1.
-fn audited<P: Penalty>(penalty: &P, list: &[u8]) -> Result<Largest, Refusal> {
+fn audited<P: Penalty>(penalty: &P, list: &[u8]) -> Result<CostedMoment, Refusal> {
     let mut row = [0; 64];
     row[0] = 1;
     row[1] = 1;
@@ -99,8 +99,8 @@ fn audited<P: Penalty>(penalty: &P, list: &[u8]) -> Result<Largest, Refusal> {
 }
 
 // A largest cost, first after slot 1.
-fn largest(cost: u64, channel: u8) -> Result<Largest, Refusal> {
-    Ok(Largest {
+fn largest(cost: u64, channel: u8) -> Result<CostedMoment, Refusal> {
+    Ok(CostedMoment {
         cost,
         slot: 1,
         channel,

@@ -1,11 +1,11 @@
 -- The line of an audit's answer: the largest cost with its moment, or the number of the refusal with its value.
 use Rattle.std.specs.Prelude.{Ok, Err, Result}
 use Rattle.lines.specs.declared.audited.Audited.{Audited}
-use Rattle.lines.specs.declared.audited.Audited.TheVariants.{Largest as LargestOf, Refused, RefusedSlot, RefusedChannel}
+use Rattle.lines.specs.declared.audited.Audited.TheVariants.{Largest, Refused, RefusedSlot, RefusedChannel}
 use Rattle.lines.specs.declared.line.Line.{Line}
 use Rattle.lines.specs.declared.line.Line.TheVariants.{Audited as AuditedLine}
 use Rattle.round.specs.Refusals.{number}
-use Rattle.round.specs.declared.largest.Largest.{Largest}
+use Rattle.round.specs.declared.costed_moment.CostedMoment.{CostedMoment}
 use Rattle.round.specs.declared.refusal.Refusal.{Refusal}
 use Rattle.round.specs.declared.refusal.Refusal.TheVariants.{NotAChannel, WrongCount}
 
@@ -16,6 +16,6 @@ refused_of (WrongCount channel) = RefusedChannel (number (WrongCount channel)) c
 refused_of other = Refused (number other)
 
 -- the line of an answer
-abbrev pub line_of : Result Largest Refusal → Line
-line_of (Ok r) = AuditedLine (LargestOf r.cost r.slot r.channel)
+abbrev pub line_of : Result CostedMoment Refusal → Line
+line_of (Ok r) = AuditedLine (Largest r.cost r.slot r.channel)
 line_of (Err e) = AuditedLine (refused_of e)

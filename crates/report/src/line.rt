@@ -3,10 +3,10 @@ ghost use Rattle.std.specs.Prelude.{◌≡◌};
 ghost use Rattle.report.specs.Line.{line_of as line, refused_of};
 
 use lines::{Audited, Line};
-use round::{Largest, Refusal};
+use round::{CostedMoment, Refusal};
 
 // The line of an audit's answer.
-pub(crate) fn line_of(answer: Result<Largest, Refusal>) -> Line
+pub(crate) fn line_of(answer: Result<CostedMoment, Refusal>) -> Line
     ensures { result ≡ line answer }
 {
     Line::Audited(match answer {

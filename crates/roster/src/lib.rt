@@ -3,6 +3,7 @@
 
 mod call;
 mod lists;
+mod moments;
 mod refusal;
 mod roster;
 mod series;

@@ -4,7 +4,7 @@ use Rattle.std.proofs.lemmas.List.Sums.{get_or-le-sum_by}
 use Rattle.std.proofs.lemmas.Bool.{cases_eq}
 use Rattle.penalty.specs.Cost.{Cost}
 use Rattle.round.specs.Audit.{Audited}
-use Rattle.round.specs.declared.largest.Largest.{Largest}
+use Rattle.round.specs.declared.costed_moment.CostedMoment.{CostedMoment}
 use Rattle.round.specs.Lists.{readings, Channel, Complete, Sound, times}
 use Rattle.round.proofs.Counts.{absent, channel_below, complete_known, readings_bound, some_channel}
 use Rattle.round.specs.Refusals.{Fault, Refused, RowRefused, number, value, turn}
@@ -121,6 +121,6 @@ sound_complete t l (NotAChannel slot) sound whole r = omega (arith, complete_kno
 sound_complete t l (WrongCount channel) sound whole r = r.fault.1 (whole.each channel)
 
 -- so its audit has an answer
-pub audited_ok : (f : Cost) (t l : List ℕ) → Sound t → Complete t l → (r : Result Largest Refusal) → Audited f t l r → IsOk r
+pub audited_ok : (f : Cost) (t l : List ℕ) → Sound t → Complete t l → (r : Result CostedMoment Refusal) → Audited f t l r → IsOk r
 audited_ok f t l sound whole (Ok r) audited = refl
 audited_ok f t l sound whole (Err e) audited = absurd (sound_complete t l e sound whole audited)

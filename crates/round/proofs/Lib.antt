@@ -1,4 +1,5 @@
 -- The lemmas of this crate.
 pub mod Counts
 pub mod Faults
+pub mod Offering
 pub mod Walks

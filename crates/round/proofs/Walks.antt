@@ -4,7 +4,7 @@ use Rattle.std.proofs.lemmas.Bool.{cases_Bool, cases_lt, ltb-true, ltb-false}
 use Rattle.round.specs.Walk.{FirstMaximum, Found, Past, larger_of}
 use Rattle.round.specs.Lists.{Moment, Before}
 use Rattle.round.proofs.Counts.{channel_below}
-use Rattle.round.specs.declared.largest.Largest.{Largest}
+use Rattle.round.specs.declared.costed_moment.CostedMoment.{CostedMoment}
 
 -- the order of moments is transitive
 before_trans : (i a j b k c : ℕ) → Before i a j b → Before j b k c → Before i a k c
@@ -20,7 +20,7 @@ before_less j b k c p = grind arith
 
 module _ (g : ℕ → ℕ → ℕ) where
   -- the same pairs, described otherwise
-  pub found_same : {M N : ℕ → ℕ → Type 0} → ((j b : ℕ) → M j b → N j b) → ((j b : ℕ) → N j b → M j b) → (o : Option Largest) → Found g M o → Found g N o
+  pub found_same : {M N : ℕ → ℕ → Type 0} → ((j b : ℕ) → M j b → N j b) → ((j b : ℕ) → N j b → M j b) → (o : Option CostedMoment) → Found g M o → Found g N o
   found_same to from None h = λ j b n. h j b (from j b n)
   found_same to from (Some r) h = record {
     moment = to r.slot r.channel h.moment;
@@ -39,7 +39,7 @@ module _ (g : ℕ → ℕ → ℕ) where
     value_from j b e = ap (λ x. g x b) e.0 ∙ ap (g k) e.1
 
     -- a pair that is not in M changes nothing
-    pub found_skip : (M k c → ⊥) → (o : Option Largest) → Found g (λ j b. M j b × Before j b k c) o → Found g (λ j b. M j b × Before j b k (c + 1)) o
+    pub found_skip : (M k c → ⊥) → (o : Option CostedMoment) → Found g (λ j b. M j b × Before j b k c) o → Found g (λ j b. M j b × Before j b k (c + 1)) o
     found_skip none =
         found_same (λ j b m. (m.0, before_less j b k c m.1))
         (λ j b m. (m.0, ⊎_elim (λ p. p) (λ e. absurd (none (here_from j b e m.0))) (before_more j b k c m.1)))
@@ -55,7 +55,7 @@ module _ (g : ℕ → ℕ → ℕ) where
       }
 
       -- else what was found before stays
-      stays : (r : Largest) → n ≤ r.cost → Found g (λ j b. M j b × Before j b k c) (Some r) → Found g (λ j b. M j b × Before j b k (c + 1)) (Some r)
+      stays : (r : CostedMoment) → n ≤ r.cost → Found g (λ j b. M j b × Before j b k c) (Some r) → Found g (λ j b. M j b × Before j b k (c + 1)) (Some r)
       stays r less h = record {
         moment = (h.moment.0, before_less r.slot r.channel k c h.moment.1);
         exact = h.exact;
@@ -64,7 +64,7 @@ module _ (g : ℕ → ℕ → ℕ) where
       }
 
       -- a pair in M is taken into account
-      pub found_more : (o : Option Largest) → Found g (λ j b. M j b × Before j b k c) o → Found g (λ j b. M j b × Before j b k (c + 1)) (Some (larger_of o (record { cost = n; slot = k; channel = c })))
+      pub found_more : (o : Option CostedMoment) → Found g (λ j b. M j b × Before j b k c) o → Found g (λ j b. M j b × Before j b k (c + 1)) (Some (larger_of o (record { cost = n; slot = k; channel = c })))
       found_more None h = takes (λ j b m p. absurd (h j b (m, p)))
       found_more (Some r) h =
           ⊎_elim
@@ -73,11 +73,11 @@ module _ (g : ℕ → ℕ → ℕ) where
           (cases_Bool (ltb r.cost n))
 
 -- the moments before one slot, under another name for it
-pub found_at : (g : ℕ → ℕ → ℕ) (t : List ℕ) (k m : ℕ) (o : Option Largest) → k ≡ m → Found g (Past t k 0) o → Found g (Past t m 0) o
+pub found_at : (g : ℕ → ℕ → ℕ) (t : List ℕ) (k m : ℕ) (o : Option CostedMoment) → k ≡ m → Found g (Past t k 0) o → Found g (Past t m 0) o
 found_at g t k m o same h = subst (λ (x : ℕ). Found g (Past t x 0) o) same h
 
 -- after the last channel comes the next slot
-pub past_slot : (g : ℕ → ℕ → ℕ) (t : List ℕ) → length t ≡ 64 → (k : ℕ) (o : Option Largest) → Found g (Past t k 64) o → Found g (Past t (k + 1) 0) o
+pub past_slot : (g : ℕ → ℕ → ℕ) (t : List ℕ) → length t ≡ 64 → (k : ℕ) (o : Option CostedMoment) → Found g (Past t k 64) o → Found g (Past t (k + 1) 0) o
 past_slot g t long k =
     found_same g
     (λ j b m. (m.0, ⊎_elim (λ p. inl (omega arith)) (λ e. inl (omega arith)) m.1))
@@ -86,10 +86,10 @@ past_slot g t long k =
     (m.0, ⊎_elim (λ p. ⊎_elim (λ l. inl l) (λ ge. inr (omega arith, omega arith)) (cases_lt j k)) (λ e. absurd (omega arith)) m.1))
 
 -- after the last slot every moment is past
-pub past_all : (g : ℕ → ℕ → ℕ) (t : List ℕ) (k : ℕ) → k ≡ sum t → (o : Option Largest) → Found g (Past t (k + 1) 0) o → Found g (Moment t) o
+pub past_all : (g : ℕ → ℕ → ℕ) (t : List ℕ) (k : ℕ) → k ≡ sum t → (o : Option CostedMoment) → Found g (Past t (k + 1) 0) o → Found g (Moment t) o
 past_all g t k end = found_same g (λ j b m. m.0) (λ j b m. (m, inl (omega arith)))
 
 -- where there is a pair, something is found
-pub found_some : (g : ℕ → ℕ → ℕ) (M : ℕ → ℕ → Type 0) (o : Option Largest) → Found g M o → (j b : ℕ) → M j b → is_some o ≡ true
+pub found_some : (g : ℕ → ℕ → ℕ) (M : ℕ → ℕ → Type 0) (o : Option CostedMoment) → Found g M o → (j b : ℕ) → M j b → is_some o ≡ true
 found_some g M None h j b m = absurd (h j b m)
 found_some g M (Some r) h j b m = refl

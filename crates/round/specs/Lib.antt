@@ -1,5 +1,6 @@
 -- The definitions that the contracts of this crate cite.
 pub mod Audit
+pub mod Dearest
 pub mod Lists
 pub mod Refusals
 pub mod Tables

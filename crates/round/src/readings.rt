@@ -106,8 +106,8 @@ impl Readings {
     }
 }
 
-// Whether no number of a row is above the limit.
-fn within_limit(row: &[u16]) -> bool
+/// Whether no number of a row is above 4,096.
+pub fn within_limit(row: &[u16]) -> bool
     ensures { MatchBool result (All (λ n. n ≤ 4096) row.now) (Any (λ n. 4096 < n) row.now) }
 {
     row.iter().all(|&n| n <= LIMIT)

@@ -1,0 +1,46 @@
+-- The moments at 0, and one slot more.
+use Rattle.std.proofs.Common.{◌+◌, [], List, get_or, length, take, refl, sym, subst, ◌∙◌, arith}
+use Rattle.std.proofs.lemmas.List.{append-nil, length-set}
+use Rattle.heap.proofs.Selecting.{last_none}
+use Rattle.heap.specs.Heaps.{AreLast}
+use Rattle.round.specs.Dearest.{costs_no_more, moments_to}
+use Rattle.round.specs.Walk.{Counted, Offered}
+use Rattle.round.specs.declared.costed_moment.CostedMoment.{CostedMoment}
+use Rattle.round.proofs.Counts.{counted_none, counted_more, count_room, channel_below, complete_known}
+use Rattle.round.proofs.Offering.{slot_offered}
+use Rattle.round.proofs.dearest.offer_moments.Goals as goal
+
+pub loop-i-init : goal.loop-i-init
+loop-i-init g c =
+    let counted = counted_none 64 c.args.list.now in
+    let heap = c.args.heap.now in
+    let none : AreLast costs_no_more [] (length heap.items.now) (take heap.len heap.items.now) =
+    rw c.requires.none (last_none costs_no_more (length heap.items.now)) in
+    let first = c.offer.ensures.offered c.args.list.now [] counted none in
+    let next = c.offer.new.heap in
+    (refl, refl, refl, counted, c.offer.ensures.named, c.offer.ensures.long,
+        subst (λ (ms : List CostedMoment). AreLast costs_no_more ms (length heap.items.now) (take next.len next.items.now)) (sym (append-nil _)) first)
+
+pub count_slot-requires : goal.count_slot-requires
+count_slot-requires g c =
+    let list = c.args.list.now in
+    let t = c.args.readings.now.by_channel in
+    let i = c.loop-i.i in
+    count_room t c.loop-i.walk.counts list i (get_or list i 0) (omega arith) (complete_known t list c.requires.sound.1 i c.loop-i-test.true) (omega arith) c.loop-i.invariant.3
+
+pub loop-i-preserved : goal.loop-i-preserved
+loop-i-preserved g c =
+    let f = g.P.Penalty.cost c.args.penalty.now in
+    let list = c.args.list.now in
+    let t = c.args.readings.now.by_channel in
+    let i = c.loop-i.i in
+    let old = c.loop-i.invariant in
+    let below = channel_below t (get_or list i 0) (complete_known t list c.requires.sound.1 i c.loop-i-test.true) in
+    let counted : Counted c.count_slot.new.counts list (i + 1) =
+    rw c.count_slot.ensures (counted_more c.loop-i.walk.counts list i (get_or list i 0) c.loop-i-test.true refl (omega arith) old.3) in
+    let heap = c.offer-in-loop-i.new.heap in
+    let offered : Offered f t c.count_slot.new.counts c.slot_at.result (length c.loop-i.heap.items.now) (take c.loop-i.heap.len c.loop-i.heap.items.now) (take heap.len heap.items.now) =
+    rw (sym old.0, sym old.1) c.offer-in-loop-i.ensures.offered in
+    let next = offered list (moments_to f t list (i + 1)) (rw c.slot_at.ensures counted) (rw old.5 old.6) in
+    (old.0, old.1, rw (c.count_slot.ensures, length-set) old.2, counted, c.offer-in-loop-i.ensures.named ∙ old.4, c.offer-in-loop-i.ensures.long ∙ old.5,
+        slot_offered f t list (i + 1) c.slot_at.result (length c.loop-i.heap.items.now) (length c.args.heap.now.items.now) (take heap.len heap.items.now) c.slot_at.ensures old.5 next)
