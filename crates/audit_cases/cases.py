@@ -4,7 +4,8 @@
 The answers come from the rules as docs/RULES.md states them, word for word and slowly: every count
 is taken afresh from the list, and every refusal is looked for in the order of the table. Nothing
 here is shared with the Rattle code. A case is the length of an input in four bytes, the high byte
-first, and then the input.
+first, and then the input. Its first line is that of the audit, its second has the costs of the dearest
+moments of the list, as many as there are places for; the number of places goes round (`PLACES`).
 """
 
 import random
@@ -16,6 +17,7 @@ from storing import store
 
 CHANNELS = 64
 LIMIT = 4096
+PLACES = (0, 1, 2, 5, 64, 300)
 
 
 def audit(row, list_):
@@ -37,21 +39,35 @@ def audit(row, list_):
     for channel in range(CHANNELS):
         if list_.count(channel) != row[channel]:
             return f"REFUSED 16 CHANNEL {channel}"
-    costs = [
-        (abs(total * list_[:k].count(c) - k * row[c]), k, c)
-        for k in range(total + 1)
-        for c in range(CHANNELS)
-        if row[c] > 0
-    ]
-    cost, k, c = min(costs, key=lambda moment: (-moment[0], moment[1], moment[2]))
+    cost, k, c = min(moments(row, list_), key=lambda moment: (-moment[0], moment[1], moment[2]))
     return f"LARGEST {cost} MOMENT {k} {c}"
 
 
-def whole(input_):
-    """The line for the bytes of an input."""
+def moments(row, list_):
+    """All moments of a list, each with its cost, slot and channel."""
+    total = sum(row)
+    channels = [c for c in range(CHANNELS) if row[c] > 0]
+    return [(abs(total * list_[:k].count(c) - k * row[c]), k, c) for k in range(total + 1) for c in channels]
+
+
+def parts(input_):
+    """The row and the list of an input."""
     front = input_[:128]
-    row = [front[i] * 256 + front[i + 1] for i in range(0, len(front) - 1, 2)]
-    return audit(row, input_[128:])
+    return [front[i] * 256 + front[i + 1] for i in range(0, len(front) - 1, 2)], input_[128:]
+
+
+def whole(input_):
+    """The line of the audit for the bytes of an input."""
+    return audit(*parts(input_))
+
+
+def dearest(input_, places):
+    """The costs of the dearest moments, as many as there are places for, the cheapest first."""
+    line = whole(input_)
+    if line.startswith("REFUSED"):
+        return "DEAREST " + " ".join(line.split()[:2])
+    costs = sorted(cost for cost, _, _ in moments(*parts(input_)))
+    return "DEAREST" + "".join(f" {cost}" for cost in costs[len(costs) - min(places, len(costs)) :])
 
 
 def table(**readings):
@@ -140,12 +156,17 @@ def at_random(rng):
 
 
 def main():
+    # readings 2 and 1, list 0 1 0: q is 0 at k = 0 and k = 3, and 1 or -1 in between
+    assert dearest(bytes_of(table(c0=2, c1=1), [0, 1, 0]), 5) == "DEAREST 0 1 1 1 1"
     cases = []
     for input_, line in [*by_hand(), *refusals()]:
         assert whole(input_) == line, (line, whole(input_))
         cases.append((input_, line))
     cases += [(input_, whole(input_)) for input_ in at_random(random.Random(1))]
-    store(__file__, b"".join(len(i).to_bytes(4, "big") + i for i, _ in cases), [line for _, line in cases])
+    lines = []
+    for turn, (input_, line) in enumerate(cases):
+        lines += [line, dearest(input_, PLACES[turn % len(PLACES)])]
+    store(__file__, b"".join(len(i).to_bytes(4, "big") + i for i, _ in cases), lines)
 
 
 if __name__ == "__main__":

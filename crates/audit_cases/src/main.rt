@@ -1,9 +1,14 @@
-// Runs the audit over many inputs, one after another on standard input, and prints the line of each.
+// Runs the audit over many inputs, one after another on standard input, and prints the line of each; and the costs of the dearest
+// moments of the list.
 #![tactic(auto)]
 
 use cases::{Case, Cases};
+use heap::Heap;
+use penalty::{AbsoluteDeviation, CHANNELS};
 use report::{LINE_BYTES, report_absolute};
-use std::io;
+use round::{CostedMoment, Readings, Refusal};
+use std::alloc::Global;
+use std::fmt::Write as _;
 use std::io::{Read, Write};
 
 // The input of one audit.
@@ -19,13 +24,44 @@ impl<'a> Case<'a> for Input<'a> {
     }
 }
 
-fn main(rt: HostRuntime) -> io::Result<()> {
+// How many places the heap of the dearest moments has, in turn.
+const PLACES: [usize; 6] = [0, 1, 2, 5, 64, 300];
+
+// The costs of the dearest moments of an input, as they leave a heap with so many places; or why it is refused.
+fn dearest_line(heap: Global, Input(case): Input, places: usize) -> anyhow::Result<String> {
+    let (front, list) = case.split_at(case.len().min(2 * CHANNELS));
+    let (pairs, _rest) = front.as_chunks::<2>();
+    let row: Vec<u16> = pairs
+        .iter()
+        .map(|&pair| u16::from_be_bytes(pair))
+        .collect(heap)?;
+    let mut memory = vec![in heap; CostedMoment::default(); places]?;
+    let mut kept = Heap::new(&mut memory);
+    let mut line = format!(in heap; "DEAREST")?;
+    match fill(&row, list, &mut kept) {
+        Ok(()) => {
+            while let Some(moment) = kept.pop() {
+                write!(line, " {}", moment.cost)?;
+            }
+        }
+        Err(refusal) => write!(line, " REFUSED {}", refusal.number())?,
+    }
+    Ok(line)
+}
+
+// Fills a heap with the dearest moments of a list for the channels of a row.
+fn fill(row: &[u16], list: &[u8], kept: &mut Heap<'_, CostedMoment>) -> Result<(), Refusal> {
+    Readings::try_from(row)?.dearest(&AbsoluteDeviation, list, kept)
+}
+
+fn main(rt: HostRuntime) -> anyhow::Result<()> {
     let mut input = Vec::new(rt.alloc());
     rt.stdin().read_to_end(&mut input)?;
     let mut line = [0; LINE_BYTES];
-    for Input(case) in Cases::new(&input) {
-        let length = report_absolute(case, &mut line);
+    for (case, &places) in Cases::<Input>::new(&input).zip(PLACES.iter().cycle()) {
+        let length = report_absolute(case.0, &mut line);
         rt.stdout().write_all(&line[..length])?;
+        println!(rt; "{}", dearest_line(rt.alloc(), case, places)?)?;
     }
     Ok(())
 }

@@ -7,7 +7,7 @@ mod query;
 #[cfg(test)]
 mod tests;
 
-use alone::{Memory, has_list};
+use alone::{begins_as, called, has_list, memory};
 use cases::Cases;
 use lines::{Context, write_channels};
 use penalty::{
@@ -18,7 +18,7 @@ use roster::{Answer, Call, Refusal, Roster, Sizes, play};
 use std::alloc::Global;
 use std::fmt::Write;
 use std::io::Read;
-use test_support::Centred;
+use test_support::{Centred, Memory};
 
 // The lines of a case under a penalty.
 fn lines_of<P: Penalty + Copy + Drop>(
@@ -28,7 +28,7 @@ fn lines_of<P: Penalty + Copy + Drop>(
 ) -> anyhow::Result<String> {
     let calls = query.calls(heap)?;
     let mut replies = vec![in heap; Ok(Answer::Done); usize::from(query.replies)]?;
-    let mut all = Memory::new(heap, query.room)?;
+    let mut all = memory(heap, query.room)?;
     let mut lines = String::new(heap);
     let played = play(
         penalty,
@@ -61,9 +61,9 @@ fn write_replies<P: Penalty + Copy + Drop>(
     let mut start = Sizes::NONE;
     for (&call, &reply) in calls.iter().zip(replies) {
         let readings = *roster.readings();
-        let mut own = Memory::new(heap, call.lent())?;
-        let alone = own.called(&mut roster, call);
-        let same = !has_list(reply) || own.begins_as(all, start, usize::from(readings.total()));
+        let mut own = memory(heap, call.lent())?;
+        let alone = called(&mut own, &mut roster, call);
+        let same = !has_list(reply) || begins_as(&own, all, start, usize::from(readings.total()));
         if alone != reply || !same {
             writeln!(lines, "NOT THE SAME ALONE")?;
         }

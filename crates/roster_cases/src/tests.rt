@@ -1,11 +1,12 @@
 // Worked bridges, the last that is taken and the first that is refused, a series of twenty calls, what memory keeps, and how
-// often best asks its penalty.
+// often best asks its penalty; the audit and the dearest moments of a list.
+use heap::Heap;
 use matching::{Crowd, Ready, Window};
 use penalty::{
     AbsoluteDeviation, Band, LIMIT, Layered, Penalty, Stop, TOP, Threshold, TwoSided, Weights,
 };
 use roster::{Answer, Call, Refusal, Roster, Sizes, play};
-use round::Readings;
+use round::{CostedMoment, Readings};
 use sequencing::{Best, Block, Listed, Outcome, best as best_of};
 use std::test::Fail;
 use test_support::{Counting, EMPTY};
@@ -375,5 +376,28 @@ fn questions(rt: HostRuntime) -> Result<(), Fail> {
     let moments = 64 * 4097;
     let most = (1 + 25 + 1) * (2 * moments + 2 * 4096) + (1 + 25) * moments;
     assert!(rt; counting.asked() <= most);
+    Ok(())
+}
+
+#[test]
+fn moments_of_a_list(rt: HostRuntime) -> Result<(), Fail> {
+    let roster = roster(AbsoluteDeviation, &[2, 1])?;
+    let largest = CostedMoment {
+        cost: 1,
+        slot: 1,
+        channel: 0,
+    };
+    assert_eq!(rt; roster.audit(&[0, 1, 0]), Ok(largest));
+    let mut memory = [CostedMoment::default(); 3];
+    let mut heap = Heap::new(&mut memory);
+    assert_eq!(rt; roster.dearest(&[0, 1, 0], &mut heap), Ok(()));
+    assert_eq!(rt; roster.dearest(&[0, 0, 1], &mut heap), Ok(()));
+    // the costs after slots 1 and 2 are 1 and 1, and 2 and 2
+    for cost in [1, 2, 2] {
+        assert_eq!(rt; heap.pop().map(|moment| moment.cost), Some(cost));
+    }
+    assert_eq!(rt; heap.pop(), None);
+    assert_eq!(rt; roster.audit(&[0, 1]), Err(round::Refusal::ListLength));
+    assert_eq!(rt; roster.dearest(&[0, 1], &mut heap), Err(round::Refusal::ListLength));
     Ok(())
 }

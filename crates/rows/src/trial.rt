@@ -67,8 +67,8 @@ impl Drop for Trial<'_> {
             channel,
             before,
         } = self;
-        if let Some(readings) = before {
-            put(row, channel, readings);
+        if let Some(number) = before {
+            put(row, channel, number);
         }
     }
 }

@@ -3,8 +3,10 @@
 
 mod centred;
 mod counting;
+mod memory;
 mod windows;
 
 pub use centred::{CENTRES, Centred};
 pub use counting::Counting;
+pub use memory::Memory;
 pub use windows::{EMPTY, is_crowded};

@@ -1,0 +1,28 @@
+// Memory for the lists of tests and of the programs of many cases.
+use crate::windows::EMPTY;
+use matching::{Ready, Window};
+use std::alloc::{AllocError, Global};
+
+/// Window places, ready places and list bytes.
+#[derive(Drop)]
+pub struct Memory {
+    pub windows: Vec<Window>,
+    pub ready: Vec<Ready>,
+    pub list: Vec<u8>,
+}
+
+impl Memory {
+    /// So many of each, in which nothing stands.
+    pub fn new(
+        heap: Global,
+        windows: usize,
+        ready: usize,
+        list: usize,
+    ) -> Result<Memory, AllocError> {
+        Ok(Memory {
+            windows: vec![in heap; EMPTY; windows]?,
+            ready: vec![in heap; Ready::default(); ready]?,
+            list: vec![in heap; u8::MAX; list]?,
+        })
+    }
+}
