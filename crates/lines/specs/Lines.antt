@@ -7,6 +7,7 @@ use Rattle.lines.specs.declared.block.Block.{Block}
 use Rattle.lines.specs.declared.block.Block.TheVariants.{Moment, Shut, Crowd}
 use Rattle.lines.specs.declared.line.Line.{Line}
 use Rattle.lines.specs.declared.line.Line.TheVariants as line
+use Rattle.lines.specs.declared.quote.Quote.{Quote}
 use Rattle.lines.specs.declared.reading.Reading.{Reading}
 
 -- a blank and a number
@@ -30,6 +31,12 @@ audited_text (Refused number) = field (codes "REFUSED ") number
 audited_text (RefusedSlot number slot) = field (codes "REFUSED ") number ++ field (codes " SLOT ") slot
 audited_text (RefusedChannel number channel) = field (codes "REFUSED ") number ++ field (codes " CHANNEL ") channel
 
+-- QUOTE serial LEAST least TOTAL D CHANNELS number LAYERS depth FIGURE figure
+abbrev pub quote_text : Quote → List ℕ
+quote_text q =
+    field (codes "QUOTE ") q.serial ++ (field (codes " LEAST ") q.least ++ (field (codes " TOTAL ") q.total
+    ++ (field (codes " CHANNELS ") q.channels ++ (field (codes " LAYERS ") q.layers ++ field (codes " FIGURE ") q.figure))))
+
 -- a line without its end
 abbrev pub body_text : Line → List ℕ
 body_text (line.Least least figure) = field (codes "LEAST ") least ++ field (codes " FIGURE ") figure
@@ -42,6 +49,7 @@ body_text (line.Below None) = codes "BELOW NOTHING"
 body_text (line.Below (Some block)) = codes "BELOW " ++ block_text block
 body_text (line.Fault number layer offset) = field (codes "FAULT ") number ++ (next_field layer ++ next_field offset)
 body_text (line.Audited answer) = audited_text answer
+body_text (line.Quote quote) = quote_text quote
 
 -- a line, with the byte 10 that ends it
 abbrev pub text : Line → List ℕ

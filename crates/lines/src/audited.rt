@@ -3,7 +3,7 @@ ghost use Rattle.std.specs.Prelude.{◌≡◌, ◌+◌, ◌≤◌, ◌++◌};
 ghost use Rattle.arrayvec.specs.ArrayVec.{array_vec_len};
 ghost use Rattle.lines.specs.Lines.{audited_text};
 
-use crate::text::{Text, push_field, push_short};
+use crate::text::{Text, push_field};
 
 /// The answer of an audit.
 #[derive(Clone, Copy, PartialEq, Eq, Debug)]
@@ -31,18 +31,18 @@ impl Audited {
                 slot,
                 channel,
             } => {
-                push_field(text, "LARGEST ", cost);
-                push_short(text, " MOMENT ", slot);
-                push_short(text, " ", u16::from(channel));
+                push_field::<20>(text, "LARGEST ", cost);
+                push_field::<5>(text, " MOMENT ", u64::from(slot));
+                push_field::<3>(text, " ", u64::from(channel));
             }
-            Audited::Refused { number } => push_short(text, "REFUSED ", u16::from(number)),
+            Audited::Refused { number } => push_field::<3>(text, "REFUSED ", u64::from(number)),
             Audited::RefusedSlot { number, slot } => {
-                push_short(text, "REFUSED ", u16::from(number));
-                push_short(text, " SLOT ", slot);
+                push_field::<3>(text, "REFUSED ", u64::from(number));
+                push_field::<5>(text, " SLOT ", u64::from(slot));
             }
             Audited::RefusedChannel { number, channel } => {
-                push_short(text, "REFUSED ", u16::from(number));
-                push_short(text, " CHANNEL ", u16::from(channel));
+                push_field::<3>(text, "REFUSED ", u64::from(number));
+                push_field::<3>(text, " CHANNEL ", u64::from(channel));
             }
         }
     }

@@ -3,7 +3,7 @@ ghost use Rattle.std.specs.Prelude.{◌≡◌, ◌+◌, ◌≤◌, ◌++◌};
 ghost use Rattle.arrayvec.specs.ArrayVec.{array_vec_len};
 ghost use Rattle.lines.specs.Lines.{block_text};
 
-use crate::text::{Text, push_short};
+use crate::text::{Text, push_field};
 
 /// Why there is no list.
 #[derive(Clone, Copy, PartialEq, Eq, Debug)]
@@ -37,8 +37,8 @@ impl Block {
     {
         match self {
             Block::Moment { slot, channel } => {
-                push_short(text, "MOMENT ", slot);
-                push_short(text, " ", u16::from(channel));
+                push_field::<5>(text, "MOMENT ", u64::from(slot));
+                push_field::<3>(text, " ", u64::from(channel));
             }
             Block::Shut {
                 channel,
@@ -46,19 +46,19 @@ impl Block {
                 earliest,
                 latest,
             } => {
-                push_short(text, "SHUT ", u16::from(channel));
-                push_short(text, " ", reading);
-                push_short(text, " ", earliest);
-                push_short(text, " ", latest);
+                push_field::<3>(text, "SHUT ", u64::from(channel));
+                push_field::<5>(text, " ", u64::from(reading));
+                push_field::<5>(text, " ", u64::from(earliest));
+                push_field::<5>(text, " ", u64::from(latest));
             }
             Block::Crowd {
                 first,
                 last,
                 number,
             } => {
-                push_short(text, "CROWD ", first);
-                push_short(text, " ", last);
-                push_short(text, " ", number);
+                push_field::<5>(text, "CROWD ", u64::from(first));
+                push_field::<5>(text, " ", u64::from(last));
+                push_field::<5>(text, " ", u64::from(number));
             }
         }
     }

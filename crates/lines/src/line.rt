@@ -6,9 +6,10 @@ ghost use Rattle.lines.specs.Text.{MayWrite};
 
 use crate::audited::Audited;
 use crate::block::Block;
+use crate::quote::Quote;
 use crate::reading::Reading;
 use crate::refusal::ShortMemory;
-use crate::text::{Text, push_field, push_short, push_word};
+use crate::text::{Text, push_field, push_word};
 
 /// How many bytes of memory a line is given, and so the most that it can have.
 pub const LINE_BYTES: usize = 96;
@@ -34,6 +35,8 @@ pub enum Line {
     Fault { number: u8, layer: u8, offset: u16 },
     /// What an audit answers.
     Audited(Audited),
+    /// What an owner is told of a bridge.
+    Quote(Quote),
 }
 
 impl Line {
@@ -68,15 +71,15 @@ impl Line {
     {
         match self {
             Line::Least { least, figure } => {
-                push_field(text, "LEAST ", least);
-                push_field(text, " FIGURE ", figure);
+                push_field::<20>(text, "LEAST ", least);
+                push_field::<20>(text, " FIGURE ", figure);
             }
             Line::NoLeast => push_word(text, "NONE"),
             Line::Within { bound, largest } => {
-                push_field(text, "WITHIN ", bound);
-                push_field(text, " LARGEST ", largest);
+                push_field::<20>(text, "WITHIN ", bound);
+                push_field::<20>(text, " LARGEST ", largest);
             }
-            Line::Over { bound } => push_field(text, "OVER ", bound),
+            Line::Over { bound } => push_field::<20>(text, "OVER ", bound),
             Line::Reading(reading) => reading.push(text),
             Line::Blocked(block) => block.push(text),
             Line::Below(None) => push_word(text, "BELOW NOTHING"),
@@ -89,11 +92,12 @@ impl Line {
                 layer,
                 offset,
             } => {
-                push_short(text, "FAULT ", u16::from(number));
-                push_short(text, " ", u16::from(layer));
-                push_short(text, " ", offset);
+                push_field::<3>(text, "FAULT ", u64::from(number));
+                push_field::<3>(text, " ", u64::from(layer));
+                push_field::<5>(text, " ", u64::from(offset));
             }
             Line::Audited(answer) => answer.push(text),
+            Line::Quote(quote) => quote.push(text),
         }
     }
 }

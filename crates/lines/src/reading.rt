@@ -3,7 +3,7 @@ ghost use Rattle.std.specs.Prelude.{◌≡◌, ◌+◌, ◌≤◌, ◌++◌};
 ghost use Rattle.arrayvec.specs.ArrayVec.{array_vec_len};
 ghost use Rattle.lines.specs.Lines.{reading_text};
 
-use crate::text::{Text, push_short};
+use crate::text::{Text, push_field};
 
 /// A reading of a channel, its window, and the slot that it stands in.
 #[derive(Clone, Copy, PartialEq, Eq, Debug)]
@@ -27,10 +27,10 @@ impl Reading {
         ensures bytes { text.new.items ≡ text.old.items ++ reading_text self }
         ensures long { array_vec_len text.new ≤ 29 }
     {
-        push_short(text, "", u16::from(self.channel));
-        push_short(text, " ", self.reading);
-        push_short(text, " ", self.earliest);
-        push_short(text, " ", self.latest);
-        push_short(text, " ", self.slot);
+        push_field::<3>(text, "", u64::from(self.channel));
+        push_field::<5>(text, " ", u64::from(self.reading));
+        push_field::<5>(text, " ", u64::from(self.earliest));
+        push_field::<5>(text, " ", u64::from(self.latest));
+        push_field::<5>(text, " ", u64::from(self.slot));
     }
 }

@@ -1,5 +1,5 @@
 // The text of a line as it is put together: words, and numbers after them.
-ghost use Rattle.std.specs.Prelude.{◌≡◌, ◌+◌, ◌≤◌, ◌++◌, length};
+ghost use Rattle.std.specs.Prelude.{◌≡◌, ◌+◌, ◌^◌, ◌<◌, ◌≤◌, ◌++◌, length};
 ghost use Rattle.arrayvec.specs.ArrayVec.{array_vec_len};
 ghost use Rattle.lines.specs.Text.{field};
 
@@ -19,24 +19,15 @@ pub(crate) fn push_word(text: &mut Text, word: &str)
     text.try_extend_from_slice(word.as_bytes()).unwrap();
 }
 
-// Appends a word and a number.
-#[tactic(auto, using(crate::proofs::Lengths::long_digits))]
-pub(crate) fn push_field(text: &mut Text, word: &str, n: u64)
-    requires { array_vec_len text.old + (length word.now + 20) ≤ 96 }
+// Appends a word and a number of so many digits at most.
+#[tactic(auto, using(crate::proofs::Lengths::few_digits))]
+pub(crate) fn push_field<const DIGITS: usize>(text: &mut Text, word: &str, n: u64)
+    requires digits { 0 < DIGITS }
+    requires small { n < 10 ^ DIGITS }
+    requires room { array_vec_len text.old + (length word.now + DIGITS) ≤ 96 }
     ensures bytes { text.new.items ≡ text.old.items ++ field word.now n }
-    ensures long { array_vec_len text.new ≤ array_vec_len text.old + (length word.now + 20) }
+    ensures long { array_vec_len text.new ≤ array_vec_len text.old + (length word.now + DIGITS) }
 {
     push_word(text, word);
     push_digits(text, n);
-}
-
-// Appends a word and a number of at most five digits.
-#[tactic(auto, using(crate::proofs::Lengths::short_digits))]
-pub(crate) fn push_short(text: &mut Text, word: &str, n: u16)
-    requires { array_vec_len text.old + (length word.now + 5) ≤ 96 }
-    ensures bytes { text.new.items ≡ text.old.items ++ field word.now n }
-    ensures long { array_vec_len text.new ≤ array_vec_len text.old + (length word.now + 5) }
-{
-    push_word(text, word);
-    push_digits(text, u64::from(n));
 }

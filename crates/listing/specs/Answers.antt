@@ -1,5 +1,5 @@
 -- The lines of an answer.
-use Rattle.std.specs.Prelude.{ℕ, ◌*◌, ◌/◌, List, [], ◌∷◌, ◌++◌, option_map}
+use Rattle.std.specs.Prelude.{ℕ, List, [], ◌∷◌, ◌++◌, option_map}
 use Rattle.job.specs.Faults.{layer, number}
 use Rattle.job.specs.declared.answer.Answer.{Answer}
 use Rattle.job.specs.declared.answer.Answer.TheVariants as answer
@@ -8,14 +8,11 @@ use Rattle.lines.specs.declared.block.Block.{Block as BlockLine}
 use Rattle.lines.specs.declared.block.Block.TheVariants.{Moment, Shut as ShutLine, Crowd}
 use Rattle.lines.specs.declared.line.Line.{Line}
 use Rattle.lines.specs.declared.line.Line.TheVariants as line
+use Rattle.quotes.specs.Figure.{figure_of}
 use Rattle.sequencing.specs.declared.answer.Block.{Block}
 use Rattle.sequencing.specs.declared.answer.Block.TheVariants.{Blocked, Shut, Crowded}
 use Rattle.sequencing.specs.declared.answer.Outcome.{Outcome}
 use Rattle.sequencing.specs.declared.answer.Outcome.TheVariants.{Least, NoLeast}
-
--- the figure of a least bound in a round of so many slots: a hundred times the least, divided by the slots, rounded down
-abbrev pub figure_of : ℕ → ℕ → ℕ
-figure_of least slots = 100 * least / slots
 
 -- a block in a line
 abbrev pub block_line : Block → BlockLine

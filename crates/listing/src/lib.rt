@@ -2,7 +2,6 @@
 #![tactic(auto)]
 
 mod answers;
-mod figures;
 mod listing;
 mod printing;
 mod program;
@@ -11,7 +10,6 @@ mod rows;
 mod state;
 mod step;
 
-pub use figures::figure;
 pub use printing::print_job;
 pub use program::{answer, run};
 pub use state::Listing;

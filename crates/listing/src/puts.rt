@@ -1,13 +1,14 @@
 // The lines of an answer, put one after another.
+ghost use Rattle.listing.specs.Answers.{best_rows, row_count};
 ghost use Rattle.listing.specs.Puts.{IsListable, IsPut};
 
 use crate::answers::{below_line, block_line};
-use crate::figures::figure;
 use crate::rows::put_rows;
 use job::Answer;
 use lines::Line;
 use matching::Window;
 use penalty::LIMIT;
+use quotes::figure;
 use sequencing::{Best, Outcome};
 
 /// The most lines of an answer: the first, one for each slot, and the last.
@@ -19,7 +20,7 @@ pub(crate) fn put_lines(
     windows: &[Window],
     lines: &mut [Line; ANSWER_LINES],
 ) -> usize
-    requires { IsListable answer.now windows.now }
+    requires { IsListable (row_count answer.now) windows.now }
     ensures { IsPut answer.now windows.now lines.new result }
 {
     match *answer {
@@ -45,7 +46,7 @@ pub(crate) fn put_lines(
 
 // The same for a best.
 fn put_best(best: &Best, windows: &[Window], lines: &mut [Line; ANSWER_LINES]) -> usize
-    requires { IsListable (Answer.Best best.now) windows.now }
+    requires { IsListable (best_rows best.now.total best.now.outcome) windows.now }
     ensures { IsPut (Answer.Best best.now) windows.now lines.new result }
 {
     match best.outcome {

@@ -1,7 +1,7 @@
-// Lines, records, figures, and a job over too little memory, worked by hand.
+// Lines, records, and a job over too little memory, worked by hand.
 use job::{Answer, FaultAt, Job, JobFault, Record, RecordFault};
 use lines::{Audited, Block, LINE_BYTES, Line, Reading, ShortMemory};
-use listing::{answer, figure};
+use listing::answer;
 use matching::Ready;
 use penalty::{AbsoluteDeviation, TOP};
 use sequencing::Outcome;
@@ -132,16 +132,6 @@ fn first(bytes: &[u8]) -> Result<Option<(Record, usize)>, RecordFault> {
         return Ok(None);
     };
     Ok(Some((record, rest.len())))
-}
-
-#[test]
-fn figures(rt: HostRuntime) {
-    assert_eq!(rt; figure(1, 3), Some(33));
-    assert_eq!(rt; figure(2, 3), Some(66));
-    assert_eq!(rt; figure(0, 1), Some(0));
-    assert_eq!(rt; figure(TOP - 1, 1), Some(109_951_162_777_400));
-    assert_eq!(rt; figure(1, 0), None);
-    assert_eq!(rt; figure(u64::MAX, 1), None);
 }
 
 #[test]

@@ -1,5 +1,7 @@
 // Worked bridges, the last that is taken and the first that is refused, a series of twenty calls, what memory keeps, and how
 // often best asks its penalty; the audit and the dearest moments of a list.
+ghost use Rattle.std.specs.Prelude.{◌<◌, ◌≤◌};
+
 use heap::Heap;
 use matching::{Crowd, Ready, Window};
 use penalty::{
@@ -210,11 +212,15 @@ fn best_call(lent: Sizes) -> Call {
 }
 
 // The answer of best where all is well: the least with the block below it.
-fn best_is(total: u16, channels: u8, outcome: Outcome) -> Result<Answer, Refusal> {
+fn best_is(total: u16, channels: u8, least: u64, below: Option<Block>) -> Result<Answer, Refusal>
+    requires total { (0 < total) × (total ≤ 4096) }
+    requires channels { (0 < channels) × (channels ≤ 64) }
+    requires least { least < TOP }
+{
     Ok(Answer::Best(Best {
         total,
         channels,
-        outcome,
+        outcome: Outcome::Least { least, below },
     }))
 }
 
@@ -267,13 +273,13 @@ fn twenty_replies() -> [Result<Answer, Refusal>; 21] {
         within,
         unlisted(sequencing::Refusal::TooLittleMemory),
         unlisted(sequencing::Refusal::TooLittleMemory),
-        best_is(3, 2, least(1, Some(moment(1, 5)))),
+        best_is(3, 2, 1, Some(moment(1, 5))),
         Err(Refusal::TotalAboveLimit),
         done,
-        best_is(2, 2, least(1, Some(moment(1, 5)))),
+        best_is(2, 2, 1, Some(moment(1, 5))),
         done,
         Err(Refusal::Absent),
-        best_is(1, 1, least(0, None)),
+        best_is(1, 1, 0, None),
         done,
     ]
 }

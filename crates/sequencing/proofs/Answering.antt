@@ -1,7 +1,8 @@
 -- What list and best answer, from what is shown in memory that is as long as the round.
-use Rattle.std.proofs.Common.{◌≡◌, ℕ, ◌-◌, ◌≤◌, ◌↔◌, List, ◌++◌, Option, count_by, nat_lt, length, take, drop, sum, sym, refl, ap, ◌∙◌, subst, ⊎_elim, arith}
+use Rattle.std.proofs.Common.{◌≡◌, ℕ, zero, suc, ◌-◌, ◌<◌, ◌≤◌, ◌↔◌, List, [], ◌∷◌, ◌++◌, Option, cond, count_by, nat_lt, length, take, drop, sum, sym, refl, ap, ◌∙◌, subst, ⊎_elim, arith}
 use Rattle.std.proofs.Math.Seq.{take-append_seam}
 use Rattle.std.proofs.lemmas.List.{length-take-le}
+use Rattle.std.proofs.lemmas.List.Sums.{sum_by-cons}
 use Rattle.std.proofs.lemmas.Slice.{drop-append-drop}
 use Rattle.std.proofs.lemmas.Bool.{cases_lt}
 use Rattle.matching.specs.declared.ready.Ready.{Ready}
@@ -10,6 +11,7 @@ use Rattle.penalty.specs.Cost.{Capped, Cost, top, Valley}
 use Rattle.round.specs.Lists.{Channel, LargestCost, count, readings}
 use Rattle.sequencing.specs.Answers.{AllForbidden, IsBest, IsLeastList, IsListed, HasNoLeast, Shows, ShowsBest}
 use Rattle.sequencing.specs.Memory.{KeepsRest, Memory, memory}
+use Rattle.sequencing.specs.Outcomes.{IsBelowTop}
 use Rattle.sequencing.specs.Searches.{Searched}
 use Rattle.sequencing.specs.Sequences.{HasList, IsSequence}
 use Rattle.sequencing.specs.declared.answer.Best.{Best}
@@ -77,6 +79,17 @@ least_list f t n below ws l capped valley some searched made =
       rules = made;
       below = searched.2;
     }
+
+-- the least that is shown is below the forbidden cost
+pub shown_below : (f : Cost) (t : List ℕ) (ws : List Window) (l : List ℕ) (outcome : Outcome) → ShowsBest f t ws l outcome → IsBelowTop outcome
+shown_below f t ws l (Least n below) shown = shown.below_top
+shown_below f t ws l (NoLeast block) shown = _
+
+-- where there is a reading there is a channel
+pub some_counted : (t : List ℕ) → 0 < sum t → 0 < count_by (nat_lt 0) t
+some_counted [] some = absurd (omega (arith, some))
+some_counted (zero ∷ t) some = omega (arith, some_counted t some, sum_by-cons (λ x. cond (nat_lt 0 x) 1 0) zero t)
+some_counted (suc n ∷ t) some = grind (arith, sum_by-cons (λ x. cond (nat_lt 0 x) 1 0) (suc n) t)
 
 -- what was cut off and written stands first
 cut_first : {X : Type 0} (n : ℕ) (xs ys : List X) → length ys ≡ n → take n (ys ++ drop n xs) ≡ ys

@@ -1,4 +1,7 @@
 // What list and best answer.
+ghost use Rattle.std.specs.Prelude.{◌<◌, ◌≤◌};
+ghost use Rattle.sequencing.specs.Outcomes.{IsBelowTop, IsBelowTop-prop};
+
 use matching::{Crowd, Window};
 use windows::Moment;
 
@@ -31,6 +34,12 @@ pub struct Best {
     pub channels: u8,
     /// The least bound, if there is one.
     pub outcome: Outcome,
+    // There are 1 to 4096 readings, of 1 to 64 channels, and the least is below the forbidden cost.
+    pub ghost some: { 0 < total },
+    pub ghost few: { total ≤ 4096 },
+    pub ghost some_channel: { 0 < channels },
+    pub ghost few_channels: { channels ≤ 64 },
+    pub ghost below_top: { IsBelowTop outcome } by { IsBelowTop-prop outcome },
 }
 
 /// The least bound at which there is a list, or why there is none.

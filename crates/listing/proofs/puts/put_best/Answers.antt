@@ -3,8 +3,9 @@ use Rattle.std.proofs.Common.{◌≡◌, ◌∷◌, [], ◌++◌, ◌-◌, ◌+�
 use Rattle.std.proofs.lemmas.List.{length-set, length-take-le}
 use Rattle.lines.specs.declared.line.Line.TheVariants as line
 use Rattle.listing.proofs.Putting.{last_put, no_rows, rows_put, two_put}
-use Rattle.listing.specs.Answers.{best_rows, figure_of}
+use Rattle.listing.specs.Answers.{best_rows}
 use Rattle.listing.specs.Rows.{AreRows}
+use Rattle.quotes.specs.Figure.{figure_of}
 use Rattle.listing.proofs.puts.put_best.Goals as goal
 
 pub returns-in-Least : goal.returns-in-Least
@@ -27,7 +28,7 @@ returns-in-Least c =
       rows,
       subst (λ k. AreRows (take k ws) rows) c.from-slots.ensures c.put_rows.ensures,
       last_put lines (line.Least least c.unwrap-figure.result ∷ rows) (line.Below c.below_line.result) n
-          (omega (arith, c.from-slots.ensures, length-set lines (n + 1) (line.Below c.below_line.result), c.below_line.array_long)) before
+          (omega (arith, c.from-slots.ensures, length-set lines (n + 1) (line.Below c.below_line.result), c.index-lines-slots.array_long)) before
           ∙ ap (λ f. line.Least least f ∷ (rows ++ (line.Below c.below_line.result ∷ []))) figured
           ∙ ap (λ b. line.Least least (figure_of least total) ∷ (rows ++ (line.Below b ∷ []))) c.below_line.ensures,
     )

@@ -1,8 +1,24 @@
 -- The answer, from what is shown in the part of the memory that is lent on.
-use Rattle.std.proofs.Common.{sum, ◌∙◌}
+use Rattle.std.proofs.Common.{sum, nat_lt, ◌∙◌, arith}
+use Rattle.std.proofs.lemmas.List.Sums.{count_by-le-length}
 use Rattle.round.proofs.Counts.{some_channel}
-use Rattle.sequencing.proofs.Answering.{best_from, cut_long}
+use Rattle.sequencing.proofs.Answering.{best_from, cut_long, shown_below, some_counted}
 use Rattle.sequencing.proofs.entry.best.Goals as goal
+
+pub invariant_of-result : goal.invariant_of-result
+invariant_of-result g c =
+    let own = c.args in
+    let t = own.readings.now.by_channel in
+    let some = c.in_ok-check.ensures.room.0 in
+    record {
+      some = omega (arith, some, c.total-2.ensures);
+      few = omega (arith, own.readings.now.few, own.readings.now.summed, c.total-2.ensures);
+      some_channel = omega (arith, some_counted t some, c.channels.ensures);
+      few_channels = omega (arith, count_by-le-length (nat_lt 0) t, own.readings.now.long, c.channels.ensures);
+      below_top =
+          shown_below (g.P.Penalty.cost own.penalty.now) t c.least_list-outcome.new.windows c.least_list-outcome.new.list c.least_list-outcome.result
+          c.least_list-outcome.ensures.shown;
+    }
 
 pub returns : goal.returns
 returns g c =
@@ -17,6 +33,6 @@ returns g c =
     rw total (
       c.in_ok-check.ensures.refused.0,
       best_from t own.windows.now new.windows own.ready.now new.ready own.list.now new.list places bytes told.ready
-          (g.P.Penalty.cost own.penalty.now) (record { total = c.total-2.result; channels = c.channels.result; outcome = c.least_list-outcome.result })
+          (g.P.Penalty.cost own.penalty.now) _
           (g.met.P.Penalty.capped own.penalty.now) (some_channel t room.0) c.total-2.ensures c.channels.ensures told.shown,
     )

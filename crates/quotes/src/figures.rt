@@ -1,6 +1,6 @@
 // The figure of a least bound.
 ghost use Rattle.std.specs.Prelude.{◌*◌, ◌^◌, ◌<◌, SomeIff};
-ghost use Rattle.listing.specs.Answers.{figure_of};
+ghost use Rattle.quotes.specs.Figure.{figure_of};
 
 /// The figure of a least bound in a round of so many slots: a hundred times the least, divided by the slots, rounded down.
 /// Nothing where there is no slot, or where a hundred times the least is no number of 64 bits.
