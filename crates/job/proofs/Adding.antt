@@ -1,8 +1,8 @@
 -- The adds of a table's channels, channel after channel.
-use Rattle.std.proofs.Common.{rules, ◌≡◌, ℕ, zero, suc, ◌+◌, ◌-◌, ◌<◌, ◌≤◌, List, [], ◌∷◌, drop, length, replicate, set, sum, sum_by, take, sym, refl, ap, ◌∙◌, arith}
+use Rattle.std.proofs.Common.{rules, ◌≡◌, ℕ, zero, suc, ◌+◌, ◌-◌, ◌<◌, ◌≤◌, List, [], ◌∷◌, Ok, drop, get_or, length, replicate, set, sum, sum_by, take, sym, refl, ap, ◌∙◌, arith}
 use Rattle.std.proofs.lemmas.List.Sums.{sum_by-cons, sum_by_more}
 use Rattle.std.proofs.Math.Seq.{take-length}
-use Rattle.std.proofs.lemmas.List.{drop-set-lt, get_or-drop, get_or-replicate, get_or-set_same, get_or-take, length-set, length-take-le, set-get_or, take-set, take-take}
+use Rattle.std.proofs.lemmas.List.{drop-set-lt, get_or_default, get_or-drop, get_or-replicate, get_or-set_same, get_or-take, length-set, length-take-le, set-get_or, take-set, take-take}
 use Rattle.std.specs.List.{between}
 use Rattle.matching.proofs.Queueing.{drop_later}
 use Rattle.round.specs.Lists.{readings}
@@ -12,6 +12,7 @@ use Rattle.penalty.specs.Cost.{Cost}
 use Rattle.roster.specs.Book.{book, lengths, lent_of, next, refused}
 use Rattle.roster.specs.Series.{IsEnough, IsPlayed, Reply, Right, call_at, list_of, memory_of, part_of, ready_of, reply_at, windows_of}
 use Rattle.sequencing.specs.Memory.{Memory}
+use Rattle.roster.specs.declared.call.Answer.TheVariants.{Done}
 use Rattle.roster.specs.declared.call.Call.{Call}
 use Rattle.roster.specs.declared.call.Call.TheVariants.{Add}
 
@@ -192,9 +193,11 @@ module _ (t : List ℕ) (question : Call) (calls : List Call) (n : ℕ) (m : Mem
       let own = same ∙ lent in
       rw (all_lent windows_of m''.windows adds.no_windows (ap (λ s. s.windows) own), all_lent ready_of m''.ready adds.no_ready (ap (λ s. s.ready) own), all_lent list_of m''.list adds.no_list (ap (λ s. s.list) own)) refl
 
-  -- the reply to the question is right
-  pub right_asked : {f : Cost} {rs rs' : List Reply} {m' : Memory} {entries : List ℕ} → lengths m' ≡ lengths m → IsPlayed f series rs rs' m m' entries → Right f t question m m' (reply_at rs' n)
-  right_asked {f} {rs} {rs'} {m'} {entries} same played =
+  -- the reply to the question is right, whatever would stand for one that is not there
+  pub right_asked : {f : Cost} {rs rs' : List Reply} {m' : Memory} {entries : List ℕ} → (d : Reply) → length rs' ≡ 65 → lengths m' ≡ lengths m →
+      IsPlayed f series rs rs' m m' entries → Right f t question m m' (get_or rs' n d)
+  right_asked {f} {rs} {rs'} {m'} {entries} d replies same played =
       let right = played.right n (omega (arith, series_long)) in
       let booked : book (take n series) ≡ t = ap book series_before ∙ adds.booked in
-      rw (sym booked, sym series_asks, sym (memory_whole m refl), sym (memory_whole m' same)) right
+      let read : get_or rs' n d ≡ reply_at rs' n = get_or_default rs' n d (Ok Done) (omega (arith, adds.few, replies)) in
+      rw (read, sym booked, sym series_asks, sym (memory_whole m refl), sym (memory_whole m' same)) right

@@ -5,6 +5,7 @@ mod audited;
 mod block;
 mod digits;
 mod line;
+mod printing;
 mod quote;
 mod reading;
 mod refusal;

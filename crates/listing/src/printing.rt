@@ -6,7 +6,6 @@ ghost use Rattle.lines.specs.declared.line.Line.{Line as LineOf};
 ghost use Rattle.listing.specs.Listing.{IsListing};
 
 use crate::state::Listing;
-use lines::{LINE_BYTES, Line};
 use penalty::Penalty;
 use std::io;
 use std::io::Write;
@@ -18,16 +17,7 @@ pub fn print_job<B: Penalty + Copy, W: Write>(bottom: B, file: &[u8], out: &mut 
 {
     let mut listing = Listing::new(bottom, file);
     while let Some(line) = listing.next() {
-        print_line(out, line)?;
+        line.print(out)?;
     }
     Ok(())
-}
-
-// Writes a line.
-fn print_line<W: Write>(out: &mut W, line: Line) -> io::Result<()>
-    ensures { OnOk result (Appends (W.contents out.old) (W.contents out.new) (text line)) }
-{
-    let mut memory = [0; LINE_BYTES];
-    let length = line.write(&mut memory).unwrap();
-    out.write_all(&memory[..length])
 }

@@ -1,7 +1,7 @@
 // The window of a reading, with the slot that it is given.
 
 /// One reading of a channel: the slots that it may stand in, and the slot that it stands in.
-#[derive(Clone, Copy, PartialEq, Eq, Debug)]
+#[derive(Clone, Copy, PartialEq, Eq, Debug, Default)]
 pub struct Window {
     /// The channel that is read.
     pub channel: u8,

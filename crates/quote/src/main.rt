@@ -2,6 +2,7 @@
 #![tactic(auto)]
 
 mod bridge;
+mod memory;
 mod office;
 
 use bridge::Bridge;
@@ -13,8 +14,8 @@ fn main(rt: HostRuntime) -> anyhow::Result<()> {
     let mut input = Vec::new(rt.alloc());
     rt.stdin().read_to_end(&mut input)?;
     let mut out = BufWriter::new(rt.alloc(), writer(&rt))?;
-    if let Some(mut bridge) = Bridge::of(&input) {
-        answer(rt.alloc(), &AbsoluteDeviation, &mut bridge, &mut out)?;
+    if let Some(bridge) = Bridge::of(&input) {
+        answer(rt.alloc(), &AbsoluteDeviation, bridge, &mut out)?;
     }
     out.flush()?;
     Ok(())

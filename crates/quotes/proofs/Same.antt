@@ -5,7 +5,8 @@ use mathlib.Core.HLevel.{is_prop→PathP}
 use Rattle.lines.specs.declared.quote.Quote.{Quote}
 
 -- two quotes with the same numbers are the same
-pub same_quotes : (a b : Quote) → a.serial ≡ b.serial → a.least ≡ b.least → a.total ≡ b.total → a.channels ≡ b.channels → a.layers ≡ b.layers → a.figure ≡ b.figure → a ≡ b
+pub same_quotes : (a b : Quote) → a.serial ≡ b.serial → a.least ≡ b.least → a.total ≡ b.total →
+    a.channels ≡ b.channels → a.layers ≡ b.layers → a.figure ≡ b.figure → a ≡ b
 same_quotes a b serial least total channels layers figure = λ i. record {
   serial = serial i;
   least = least i;

@@ -21,7 +21,7 @@ pub struct Draft {
     ghost some_channel: { 0 < channels },
     ghost few_channels: { channels ≤ 64 },
     ghost below_top: { least < top },
-    // So the long numbers of its line are short.
+    // So the long numbers of its line have no more digits than a line has room for.
     ghost short_least: { least < 10 ^ 13 },
     ghost short_figure: { figure_of least total < 10 ^ 15 },
 }
@@ -29,8 +29,8 @@ pub struct Draft {
 impl Draft {
     ghost use Rattle.quotes.specs.Quotes.{MayDraft, MayIssue};
 
-    /// The draft of a quote for a best, with the depth of the penalty that the best was found under. Refused where the best
-    /// has no least.
+    /// The draft of a quote for a best, with the depth of a penalty; that the best was found under this penalty is not
+    /// checked. Refused where the best has no least.
     pub fn new<P: Penalty>(best: Best, penalty: &P) -> Result<Draft, Refusal>
         ensures { MayDraft best (P.depth penalty.now) result }
     {

@@ -14,7 +14,7 @@ loop-line-preserved g c =
     let contents = g.W.Write.contents in
     let now = c.loop-line in
     written_more (IsListing (cost c.args.bottom) c.args.file.now) (HasLeft cost now.listing) (HasLeft cost c.next.new.self)
-    (contents c.args.out.now) (contents now.out) (contents c.print_line.new.out) c.in-Some.line now.invariant c.in-Some.ensures.line c.in_ok-print_line.ensures
+    (contents c.args.out.now) (contents now.out) (contents c.print.new.out) c.in-Some.line now.invariant c.in-Some.ensures.line c.in_ok-print.ensures
 
 pub returns : goal.returns
 returns g c =
