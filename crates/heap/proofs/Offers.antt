@@ -28,10 +28,15 @@ module _ {X : Type 0} (leq : X → X → Bool) where
         n ≡ length xs → First leq f xs n → leq f x ≡ true → Popped leq y xs n ys m → Pushed x ys m zs k → GivesWay leq x y xs n zs k
     gives_first x y f xs n ys m zs k full first before out into = record {
       full = full;
-      one = inr (out.first, first_before x y f xs n (omega arith) out.first first before, into.more ∙ out.fewer,
-          IsPermutation-trans (x ∷ take n xs) (x ∷ (y ∷ take m ys)) (y ∷ take k zs) (IsPermutation-cons x (take n xs) (y ∷ take m ys) out.kept)
-          (IsPermutation-trans (x ∷ (y ∷ take m ys)) (y ∷ (x ∷ take m ys)) (y ∷ take k zs) (front_swapped x y (take m ys))
-          (IsPermutation-cons y (x ∷ take m ys) (take k zs) into.kept)), into.long ∙ out.long);
+      one = inr (
+        out.first,
+        first_before x y f xs n (omega arith) out.first first before,
+        into.more ∙ out.fewer,
+        IsPermutation-trans (x ∷ take n xs) (x ∷ (y ∷ take m ys)) (y ∷ take k zs) (IsPermutation-cons x (take n xs) (y ∷ take m ys) out.kept)
+            (IsPermutation-trans (x ∷ (y ∷ take m ys)) (y ∷ (x ∷ take m ys)) (y ∷ take k zs) (front_swapped x y (take m ys))
+            (IsPermutation-cons y (x ∷ take m ys) (take k zs) into.kept)),
+        into.long ∙ out.long,
+      );
     }
 
   -- what is popped leaves before what is kept after it

@@ -41,7 +41,7 @@ module _ {X : Type 0} (leq : X → X → Bool) where
     last_more xs ys room one h =
         let all_kept = less_than_places n (length ms) (length xs) h.many room in
         let none : h.left_out ≡ [] = no_length h.left_out
-            (omega (arith, length_permutation (xs ++ h.left_out) ms h.all, length-append xs h.left_out)) in
+        (omega (arith, length_permutation (xs ++ h.left_out) ms h.all, length-append xs h.left_out)) in
         let all : IsPermutation xs ms = subst (λ (l : List X). IsPermutation l ms) (ap (λ l. xs ++ l) none ∙ append-nil xs) h.all in
         let more = length_permutation (x ∷ xs) ys one in
         record {
@@ -81,16 +81,16 @@ module _ {X : Type 0} (leq : X → X → Bool) where
         let full = length-take-le n xs room ∙ way.full in
         ⊎_elim
         (λ itself.
-          rw (itself.2.0, itself.2.1)
-          (last_left ms (length xs) x x (take n xs) (take n xs) full (IsPermutation-refl (x ∷ take n xs)) refl itself.1 (λ w all. all) h))
+        rw (itself.2.0, itself.2.1)
+        (last_left ms (length xs) x x (take n xs) (take n xs) full (IsPermutation-refl (x ∷ take n xs)) refl itself.1 (λ w all. all) h))
         (λ first.
-          last_left ms (length xs) x y (take n xs) (take m ys) full first.3
-          (omega (arith, length-take-le n xs room, length-take-le m ys room_after, first.2))
-          (all_shuffled (λ z. leq y z ≡ true) (x ∷ take n xs) (y ∷ take m ys) first.3 (first.1, first.0.before)).1
-          (λ w all.
-            (all_shuffled (λ z. leq w z ≡ true) (x ∷ take n xs) (y ∷ take m ys) first.3
-            (transitive w y x (before_first w y room first.0 all) first.1, all)).1)
-          h)
+        last_left ms (length xs) x y (take n xs) (take m ys) full first.3
+        (omega (arith, length-take-le n xs room, length-take-le m ys room_after, first.2))
+        (all_shuffled (λ z. leq y z ≡ true) (x ∷ take n xs) (y ∷ take m ys) first.3 (first.1, first.0.before)).1
+        (λ w all.
+        (all_shuffled (λ z. leq w z ≡ true) (x ∷ take n xs) (y ∷ take m ys) first.3
+        (transitive w y x (before_first w y room first.0 all) first.1, all)).1)
+        h)
         way.one
 
     -- the same, for so many places

@@ -17,7 +17,11 @@ impl<P: Penalty> Roster<P> {
     }
 
     /// Fills a heap with the dearest moments of a list of the channels, as many as it has places for.
-    pub fn dearest(&self, list: &[u8], heap: &mut Heap<'_, CostedMoment>) -> Result<(), round::Refusal>
+    pub fn dearest(
+        &self,
+        list: &[u8],
+        heap: &mut Heap<'_, CostedMoment>,
+    ) -> Result<(), round::Refusal>
         ensures named { heap.new.items.ghost_name ≡ heap.old.items.ghost_name }
         ensures long { length heap.new.items.now ≡ length heap.old.items.now }
         ensures dearest { FillsDearest (P.cost self.now.penalty) self.now.readings.by_channel list.now

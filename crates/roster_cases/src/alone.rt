@@ -27,9 +27,7 @@ pub fn called<P: Penalty>(
             roster.change(channel, readings).map(|()| Answer::Done)
         }
         Call::Remove { channel } => roster.remove(channel).map(|()| Answer::Done),
-        Call::List { bound, .. } => roster
-            .list(bound, windows, ready, list)
-            .map(Answer::Listed),
+        Call::List { bound, .. } => roster.list(bound, windows, ready, list).map(Answer::Listed),
         Call::Best { .. } => roster.best(windows, ready, list).map(Answer::Best),
     }
 }
@@ -38,12 +36,18 @@ pub fn called<P: Penalty>(
 pub fn begins_as(memory: &Memory, all: &Memory, start: Sizes, total: usize) -> bool {
     let windows = all.windows.iter().skip(start.windows);
     let list = all.list.iter().skip(start.list);
-    memory.windows
+    memory
+        .windows
         .iter()
         .zip(windows)
         .take(total)
         .all(|(a, b)| a == b)
-        && memory.list.iter().zip(list).take(total).all(|(a, b)| a == b)
+        && memory
+            .list
+            .iter()
+            .zip(list)
+            .take(total)
+            .all(|(a, b)| a == b)
 }
 
 // Whether a list stands in the memory after a reply.

@@ -404,6 +404,9 @@ fn moments_of_a_list(rt: HostRuntime) -> Result<(), Fail> {
     }
     assert_eq!(rt; heap.pop(), None);
     assert_eq!(rt; roster.audit(&[0, 1]), Err(round::Refusal::ListLength));
-    assert_eq!(rt; roster.dearest(&[0, 1], &mut heap), Err(round::Refusal::ListLength));
+    assert_eq!(rt;
+        roster.dearest(&[0, 1], &mut heap),
+        Err(round::Refusal::ListLength)
+    );
     Ok(())
 }

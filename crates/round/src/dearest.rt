@@ -15,7 +15,12 @@ use penalty::{CHANNELS, Penalty};
 impl Readings {
     /// Fills a heap with the dearest moments of a list of these channels: as many as its memory has places, or all where they
     /// are fewer. What it kept before is given up. The cheapest of them then comes out first. Refused, it changes nothing.
-    pub fn dearest<P: Penalty>(&self, penalty: &P, list: &[u8], heap: &mut Heap<'_, CostedMoment>) -> Result<(), Refusal>
+    pub fn dearest<P: Penalty>(
+        &self,
+        penalty: &P,
+        list: &[u8],
+        heap: &mut Heap<'_, CostedMoment>,
+    ) -> Result<(), Refusal>
         ensures named { heap.new.items.ghost_name ≡ heap.old.items.ghost_name }
         ensures long { length heap.new.items.now ≡ length heap.old.items.now }
         ensures dearest { FillsDearest (P.cost penalty.now) self.now.by_channel list.now
@@ -29,7 +34,12 @@ impl Readings {
 }
 
 // Counts the channels slot by slot, and offers the moments after each slot to a heap that keeps none.
-fn offer_moments<'a, P: Penalty>(penalty: &'a P, readings: &'a Readings, list: &[u8], heap: &mut Heap<'_, CostedMoment>)
+fn offer_moments<'a, P: Penalty>(
+    penalty: &'a P,
+    readings: &'a Readings,
+    list: &[u8],
+    heap: &mut Heap<'_, CostedMoment>,
+)
     requires sound { Sound readings.now.by_channel × Complete readings.now.by_channel list.now }
     requires none { heap.old.len ≡ 0 }
     ensures named { heap.new.items.ghost_name ≡ heap.old.items.ghost_name }

@@ -4,8 +4,8 @@ ghost use Rattle.round.specs.Audit.{Audited, FirstLargest};
 ghost use Rattle.round.specs.Lists.{Sound, Complete, readings as d_of};
 ghost use Rattle.round.specs.Walk.{Scanned, larger_of};
 
-use crate::counting::{count_slot, slot_at};
 use crate::costed_moment::CostedMoment;
+use crate::counting::{count_slot, slot_at};
 use crate::readings::Readings;
 use crate::refusal::Refusal;
 use penalty::{CHANNELS, Penalty, Question};

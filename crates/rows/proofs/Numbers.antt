@@ -1,5 +1,5 @@
 -- By which number a row is refused.
-use Rattle.std.proofs.Common.{rules, ◌≡◌, ◌≢◌, ℕ, ◌+◌, ◌-◌, ◌<◌, ◌≤◌, true, false, List, length, get_or, set, All, Any, MatchBool, Bool, [], inl, sum, not, sym, refl, ap, ◌∙◌, ⊎_elim, arith}
+use Rattle.std.proofs.Common.{rules, ◌≡◌, ◌≢◌, ℕ, ◌+◌, ◌-◌, ◌<◌, ◌≤◌, true, false, List, length, All, Any, MatchBool, Bool, [], inl, sum, not, sym, refl, ap, ◌∙◌, ⊎_elim, arith}
 use Rattle.std.specs.Prelude.{◌==◌, ◌||◌, nat_lt}
 use Rattle.std.proofs.lemmas.Bool.{false≢true, cases_eq, cases_lt, eq-eqb, le-ltb, lt-ltb, ne_eqb}
 use Rattle.std.proofs.lemmas.List.{get_or_default, get_or-set_other, get_or-set_same, length-set}
@@ -10,8 +10,7 @@ use Rattle.round.specs.Lists.{readings}
 use Rattle.round.specs.Refusals.{RowRefused, number as row_number}
 use Rattle.round.specs.declared.refusal.Refusal.{Refusal}
 use Rattle.round.specs.declared.refusal.Refusal.TheVariants.{RowLength, ReadingsAboveLimit, TotalAboveLimit, NoChannel, ListLength, NotAChannel, WrongCount}
-use Rattle.sequencing.specs.Refusals.{best_refused}
-use Rattle.rows.specs.Rows.{changed, has_above, is_no_row, row_refused, table_refused, trial_refused}
+use Rattle.rows.specs.Rows.{changed, has_above, is_no_row, table_refused, trial_refused}
 
 module _ (row : List ℕ) where
   -- a row of 64 numbers is a row
@@ -80,12 +79,20 @@ module _ (row : List ℕ) (c n : ℕ) where
   changed_small le none =
       none_above (changed row c n)
       (λ b below.
-        ⊎_elim (λ same. rw same (rw (get_or-set_same row c n 0 (omega (arith, length-set row c n))) le))
-        (λ other. rw (get_or-set_other row c b n 0 other) (small_of row none b)) (cases_eq b c))
+      ⊎_elim (λ same. rw same (rw (get_or-set_same row c n 0 (omega (arith, length-set row c n))) le))
+      (λ other. rw (get_or-set_other row c b n 0 other) (small_of row none b)) (cases_eq b c))
 
   -- where all else is right a trial is refused as the changed row is refused as a table
   pub trial_as_table : length row ≡ 64 → c < 64 → (n == 0 || nat_lt 4096 n) ≡ false → has_above row ≡ false → 0 < readings row c →
       trial_refused row c n ≡ table_refused (changed row c n)
   trial_as_table long below range none there =
-      rw (is_row row long, le-ltb 63 c (omega arith), range, none, ne_eqb (readings row c) 0 (λ e. omega arith),
-          is_row (changed row c n) (length-set row c n ∙ long), changed_small (in_range n range).1 none, changed_sum (omega arith)) refl
+      rw (
+        is_row row long,
+        le-ltb 63 c (omega arith),
+        range,
+        none,
+        ne_eqb (readings row c) 0 (λ e. omega arith),
+        is_row (changed row c n) (length-set row c n ∙ long),
+        changed_small (in_range n range).1 none,
+        changed_sum (omega arith),
+      ) refl

@@ -39,7 +39,7 @@ row_refused row w r l = or_else (table_refused row) (best_refused row w r l)
 abbrev pub trial_refused : List ℕ → ℕ → ℕ → ℕ
 trial_refused row c n =
     first_of ((17, is_no_row row) ∷ (1, nat_lt 63 c) ∷ (2, n == 0 || nat_lt 4096 n || has_above row) ∷ (4, readings row c == 0)
-      ∷ (5, nat_lt 4096 ((sum row - readings row c) + n)) ∷ [])
+    ∷ (5, nat_lt 4096 ((sum row - readings row c) + n)) ∷ [])
 
 -- a row with n readings for channel c
 abbrev pub changed : List ℕ → ℕ → ℕ → List ℕ

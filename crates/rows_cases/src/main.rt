@@ -77,7 +77,7 @@ fn write_trial<P: Penalty>(
 }
 
 // The lines of a case over a bottom, under the limit of the case.
-fn lines_over<P: Penalty>(heap: Global, bottom: P, query: &Query) -> anyhow::Result<String> {
+fn lines_over<P: Penalty + Drop>(heap: Global, bottom: P, query: &Query) -> anyhow::Result<String> {
     let limit = Threshold::try_from(query.limit).unwrap_or(Threshold::LARGEST);
     lines_of(heap, &Layered::over(bottom, Stop { limit }), query)
 }

@@ -32,15 +32,23 @@ fn tries_one_reading_more(rt: HostRuntime) -> Result<(), Fail> {
     let penalty = AbsoluteDeviation;
     let answer = best(&penalty, &row, &mut windows, &mut ready, &mut list);
     assert_eq!(rt; least_of(answer), Some(1));
-    assert_eq!(rt; list[..3], [0, 1, 0]);
+    assert!(rt; list.starts_with(&[0, 1, 0]));
     {
         let trial = Trial::new(&mut row, 1, 2);
         let answer = trial.best(&penalty, &mut windows, &mut ready, &mut list);
         assert_eq!(rt; least_of(answer), Some(2));
-        assert_eq!(rt; list[..], [0, 1, 0, 1]);
+        assert!(rt; list.starts_with(&[0, 1, 0, 1]));
     }
     assert_eq!(rt; row, two_channels());
-    let answer = try_best(&penalty, &mut row, 1, 2, &mut windows, &mut ready, &mut list);
+    let answer = try_best(
+        &penalty,
+        &mut row,
+        1,
+        2,
+        &mut windows,
+        &mut ready,
+        &mut list,
+    );
     assert_eq!(rt; least_of(answer), Some(2));
     assert_eq!(rt; row, two_channels());
     Ok(())
@@ -54,8 +62,17 @@ fn a_refused_trial_changes_nothing(rt: HostRuntime) -> Result<(), Fail> {
         mut ready,
         mut list,
     } = Memory::new(rt.alloc(), 4, 64, 4)?;
-    for (channel, readings, number) in [(64, 0, 1), (0, 0, 2), (0, 4097, 2), (2, 1, 4), (0, 4096, 5)] {
-        assert_eq!(rt; check(&row, channel, readings).map_err(Refusal::number), Err(number));
+    for (channel, readings, number) in [
+        (64, 0, 1),
+        (0, 0, 2),
+        (0, 4097, 2),
+        (2, 1, 4),
+        (0, 4096, 5),
+    ] {
+        assert_eq!(rt;
+            check(&row, channel, readings).map_err(Refusal::number),
+            Err(number)
+        );
         let trial = Trial::new(&mut row, channel, readings);
         let answer = trial.best(&AbsoluteDeviation, &mut windows, &mut ready, &mut list);
         assert_eq!(rt; least_of(answer), Some(1));

@@ -17,9 +17,15 @@ loop-i-init g c =
     let none : AreLast costs_no_more [] (length heap.items.now) (take heap.len heap.items.now) =
     rw c.requires.none (last_none costs_no_more (length heap.items.now)) in
     let first = c.offer.ensures.offered c.args.list.now [] counted none in
-    let next = c.offer.new.heap in
-    (refl, refl, refl, counted, c.offer.ensures.named, c.offer.ensures.long,
-        subst (λ (ms : List CostedMoment). AreLast costs_no_more ms (length heap.items.now) (take next.len next.items.now)) (sym (append-nil _)) first)
+    let next = c.offer.new.heap in (
+      refl,
+      refl,
+      refl,
+      counted,
+      c.offer.ensures.named,
+      c.offer.ensures.long,
+      subst (λ (ms : List CostedMoment). AreLast costs_no_more ms (length heap.items.now) (take next.len next.items.now)) (sym (append-nil _)) first,
+    )
 
 pub count_slot-requires : goal.count_slot-requires
 count_slot-requires g c =
@@ -41,6 +47,12 @@ loop-i-preserved g c =
     let heap = c.offer-in-loop-i.new.heap in
     let offered : Offered f t c.count_slot.new.counts c.slot_at.result (length c.loop-i.heap.items.now) (take c.loop-i.heap.len c.loop-i.heap.items.now) (take heap.len heap.items.now) =
     rw (sym old.0, sym old.1) c.offer-in-loop-i.ensures.offered in
-    let next = offered list (moments_to f t list (i + 1)) (rw c.slot_at.ensures counted) (rw old.5 old.6) in
-    (old.0, old.1, rw (c.count_slot.ensures, length-set) old.2, counted, c.offer-in-loop-i.ensures.named ∙ old.4, c.offer-in-loop-i.ensures.long ∙ old.5,
-        slot_offered f t list (i + 1) c.slot_at.result (length c.loop-i.heap.items.now) (length c.args.heap.now.items.now) (take heap.len heap.items.now) c.slot_at.ensures old.5 next)
+    let next = offered list (moments_to f t list (i + 1)) (rw c.slot_at.ensures counted) (rw old.5 old.6) in (
+      old.0,
+      old.1,
+      rw (c.count_slot.ensures, length-set) old.2,
+      counted,
+      c.offer-in-loop-i.ensures.named ∙ old.4,
+      c.offer-in-loop-i.ensures.long ∙ old.5,
+      slot_offered f t list (i + 1) c.slot_at.result (length c.loop-i.heap.items.now) (length c.args.heap.now.items.now) (take heap.len heap.items.now) c.slot_at.ensures old.5 next,
+    )

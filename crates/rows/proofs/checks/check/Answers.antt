@@ -1,5 +1,5 @@
 -- What is left is refused as the changed row is refused as a table.
-use Rattle.std.proofs.Common.{◌≡◌, ◌<◌, false, length, nat_lt, rules, set, ap, ◌∙◌, sym, arith}
+use Rattle.std.proofs.Common.{◌≡◌, ◌<◌, false, length, nat_lt, rules, set, ap, ◌∙◌, arith}
 use Rattle.std.specs.Prelude.{◌==◌, ◌||◌}
 use Rattle.std.proofs.lemmas.Result.{err_from_is_err_and}
 use Rattle.round.specs.Lists.{readings}

@@ -21,17 +21,20 @@ loop-channel-preserved g c =
     elim c.if-of-gt0.branch [
       | then-of-gt0 w ↦
           let next = w.offer.new.self in
-          rw w.heap-is
-          (w.offer.ensures.named ∙ old.0, w.offer.ensures.long ∙ old.1, λ list before agree first.
-            let offered : CostedMoment = record { cost = w.cost_after-cost.result; slot = slot; channel = channel } in
-            let costs : w.cost_after-cost.result ≡ cost_at f t list slot channel =
-            rw w.cost_after-cost.ensures (ap (λ x. f (sum t) channel (readings t channel) x slot) (agree channel)) in
-            let is : offered ≡ costed f t list slot channel = ap (λ n. record { cost = n; slot = slot; channel = channel }) costs in
-            let kept = last_offered costs_no_more costs_transitive (before ++ map (costed f t list slot) (channels_to t channel)) offered
-            heap.items.now heap.len next.items.now next.len places old.1 w.offer.result heap.sound.room next.sound.room w.offer.ensures.offered
-            (old.2 list before agree first) in
-            subst (λ (ms : List CostedMoment). AreLast costs_no_more ms places (take next.len next.items.now))
-            (ap (λ x. (before ++ map (costed f t list slot) (channels_to t channel)) ++ x ∷ []) is ∙ sym (moment_more f t list slot channel before (omega arith))) kept)
+          rw w.heap-is (
+            w.offer.ensures.named ∙ old.0,
+            w.offer.ensures.long ∙ old.1,
+            λ list before agree first.
+                let offered : CostedMoment = record { cost = w.cost_after-cost.result; slot = slot; channel = channel } in
+                let costs : w.cost_after-cost.result ≡ cost_at f t list slot channel =
+                rw w.cost_after-cost.ensures (ap (λ x. f (sum t) channel (readings t channel) x slot) (agree channel)) in
+                let is : offered ≡ costed f t list slot channel = ap (λ n. record { cost = n; slot = slot; channel = channel }) costs in
+                let kept = last_offered costs_no_more costs_transitive (before ++ map (costed f t list slot) (channels_to t channel)) offered
+                heap.items.now heap.len next.items.now next.len places old.1 w.offer.result heap.sound.room next.sound.room w.offer.ensures.offered
+                (old.2 list before agree first) in
+                subst (λ (ms : List CostedMoment). AreLast costs_no_more ms places (take next.len next.items.now))
+                (ap (λ x. (before ++ map (costed f t list slot) (channels_to t channel)) ++ x ∷ []) is ∙ sym (moment_more f t list slot channel before (omega arith))) kept,
+          )
       | else-of-gt0 w ↦
           rw (w.heap-is, channels_same t channel (omega arith)) old
     ]
