@@ -15,7 +15,7 @@ fn main(rt: HostRuntime) -> anyhow::Result<()> {
     rt.stdin().read_to_end(&mut input)?;
     let mut out = BufWriter::new(rt.alloc(), writer(&rt))?;
     if let Some(bridge) = Bridge::of(&input) {
-        answer(rt.alloc(), &AbsoluteDeviation, bridge, &mut out)?;
+        answer(&AbsoluteDeviation, bridge, &mut out)?;
     }
     out.flush()?;
     Ok(())

@@ -1,23 +1,22 @@
 // Memory for a list of any round.
 use matching::{Ready, Window};
 use penalty::{CHANNELS, LIMIT};
-use std::alloc::{AllocError, Global};
 
-/// Window places, ready places and list bytes, enough for every round.
-#[derive(Drop)]
+/// As many window places, ready places and list bytes as the largest round needs.
+#[derive(Clone, Copy)]
 pub struct Memory {
-    pub windows: Vec<Window>,
-    pub ready: Vec<Ready>,
-    pub list: Vec<u8>,
+    pub windows: [Window; LIMIT as usize],
+    pub ready: [Ready; CHANNELS],
+    pub list: [u8; LIMIT as usize],
 }
 
 impl Memory {
     /// Memory in which nothing stands.
-    pub fn new(heap: Global) -> Result<Memory, AllocError> {
-        Ok(Memory {
-            windows: vec![in heap; Window::default(); usize::from(LIMIT)]?,
-            ready: vec![in heap; Ready::default(); CHANNELS]?,
-            list: vec![in heap; 0; usize::from(LIMIT)]?,
-        })
+    pub fn new() -> Memory {
+        Memory {
+            windows: [Window::default(); LIMIT as usize],
+            ready: [Ready::default(); CHANNELS],
+            list: [0; LIMIT as usize],
+        }
     }
 }

@@ -3,21 +3,19 @@ use crate::bridge::Bridge;
 use crate::memory::Memory;
 use lines::{Audited, LINE_BYTES, Line, Reading};
 use matching::Window;
-use penalty::Penalty;
+use penalty::{LIMIT, Penalty};
 use quotes::{Draft, figure};
 use rows::{Trial, best, check};
 use sequencing::{Best, Outcome};
-use std::alloc::Global;
 use std::io::Write;
 
 /// Answers what is asked of a bridge.
 pub fn answer<P: Penalty, W: Write>(
-    heap: Global,
     penalty: &P,
     mut bridge: Bridge,
     out: &mut W,
 ) -> anyhow::Result<()> {
-    let mut memory = Memory::new(heap)?;
+    let mut memory = Memory::new();
     let Memory {
         windows,
         ready,
@@ -39,7 +37,7 @@ fn print_least<W: Write>(best: Best, out: &mut W) -> anyhow::Result<()> {
     let line = match best.outcome {
         Outcome::Least { least, .. } => Line::Least {
             least,
-            figure: figure(least, best.total).unwrap_or(u64::MAX),
+            figure: figure(least, best.total).unwrap(),
         },
         Outcome::NoLeast(_block) => Line::NoLeast,
     };
@@ -116,7 +114,7 @@ fn print_quote<P: Penalty, W: Write>(
     };
     let mut memory = [0; LINE_BYTES];
     match issued.print(&mut memory) {
-        Ok(length) => out.write_all(memory.get(..length).unwrap_or_default())?,
+        Ok(length) => out.write_all(&memory[..length])?,
         Err(returned) => return print_refused(returned.refusal.number(), out),
     }
     Ok(())
