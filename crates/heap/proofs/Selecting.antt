@@ -7,7 +7,7 @@ use Rattle.std.proofs.lemmas.Bool.{cases_lt}
 use Rattle.std.proofs.Math.Nat.{min-eq_left, min-eq_right}
 use Rattle.std.proofs.lemmas.List.{append-nil, get_or-take, length-append, length-take-le}
 use Rattle.std.proofs.lemmas.List.Sorted.{IsPermutation-append_left, IsPermutation-cons, IsPermutation-middle, IsPermutation-refl, IsPermutation-sym, IsPermutation-to_front, IsPermutation-trans, length_permutation}
-use Rattle.heap.specs.Heaps.{AreLast, First, GivesWay, Pushed}
+use Rattle.heap.specs.Heaps.{AreLast, First, LeftOut, Pushed}
 
 -- a list of length 0 is empty
 no_length : {X : Type 0} (xs : List X) → length xs ≡ 0 → xs ≡ []
@@ -73,12 +73,12 @@ module _ {X : Type 0} (leq : X → X → Bool) where
         rw at (All-get_or (λ z. leq w z ≡ true) (take n xs) 0 y (omega (arith, first.some, length-take-le n xs room)) all)
 
     -- what a heap keeps of all that it was offered, after one more
-    offered_once : (o : Option X) → n ≤ length xs → m ≤ length ys → MatchOption o (Pushed x xs n ys m) (λ y. GivesWay leq x y xs n ys m) →
+    offered_once : (o : Option X) → n ≤ length xs → m ≤ length ys → MatchOption o (Pushed x xs n ys m) (λ y. LeftOut leq x y xs n ys m) →
         AreLast leq ms (length xs) (take n xs) → AreLast leq (ms ++ x ∷ []) (length xs) (take m ys)
     offered_once None room room_after pushed h =
         last_more ms (length xs) x (take n xs) (take m ys) (omega (arith, length-take-le n xs room, pushed.more, pushed.long)) pushed.kept h
-    offered_once (Some y) room room_after way h =
-        let full = length-take-le n xs room ∙ way.full in
+    offered_once (Some y) room room_after left h =
+        let full = length-take-le n xs room ∙ left.full in
         ⊎_elim
         (λ itself.
         rw (itself.2.0, itself.2.1)
@@ -91,11 +91,11 @@ module _ {X : Type 0} (leq : X → X → Bool) where
         (all_shuffled (λ z. leq w z ≡ true) (x ∷ take n xs) (y ∷ take m ys) first.3
         (transitive w y x (before_first w y room first.0 all) first.1, all)).1)
         h)
-        way.one
+        left.one
 
     -- the same, for so many places
     pub last_offered : (places : ℕ) → length xs ≡ places → (o : Option X) → n ≤ length xs → m ≤ length ys →
-        MatchOption o (Pushed x xs n ys m) (λ y. GivesWay leq x y xs n ys m) →
+        MatchOption o (Pushed x xs n ys m) (λ y. LeftOut leq x y xs n ys m) →
         AreLast leq ms places (take n xs) → AreLast leq (ms ++ x ∷ []) places (take m ys)
     last_offered places many o room room_after offered =
         subst (λ (p : ℕ). AreLast leq ms p (take n xs) → AreLast leq (ms ++ x ∷ []) p (take m ys)) many (offered_once o room room_after offered)

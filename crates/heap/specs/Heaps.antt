@@ -58,9 +58,9 @@ pub record Popped {X : Type 0} (leq : X → X → Bool) (x : X) (xs : List X) (n
   pub rest : drop n ys ≡ drop n xs
   pub long : length ys ≡ length xs
 
--- where no place is left, x is offered and y gives way: it is x, which may come out before all that is kept, and nothing has
--- changed; or it was the first and may come out before x, and x is kept in its stead
-pub record GivesWay {X : Type 0} (leq : X → X → Bool) (x y : X) (xs : List X) (n : ℕ) (ys : List X) (m : ℕ) : Type 0 where
+-- where no place is left, x is offered and y is left out: it is x, which may come out before all that is kept, and nothing has
+-- changed; or it was the first and may come out before x, and x is kept in its place
+pub record LeftOut {X : Type 0} (leq : X → X → Bool) (x y : X) (xs : List X) (n : ℕ) (ys : List X) (m : ℕ) : Type 0 where
   pub full : n ≡ length xs
   pub one : ((y ≡ x) × AllByRecursion (λ z. leq x z ≡ true) (take n xs) × Unchanged xs n ys m)
       ⊎ (First leq y xs n × (leq y x ≡ true) × (m ≡ n) × IsPermutation (x ∷ take n xs) (y ∷ take m ys) × (length ys ≡ length xs))

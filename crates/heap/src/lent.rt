@@ -1,6 +1,6 @@
 // The heap over lent memory.
 ghost use Rattle.std.specs.Prelude.{◌≡◌, List, [], ◌∷◌, length, take, IfNone, IfSome, MatchOption, OnErr, OnOk};
-ghost use Rattle.heap.specs.Heaps.{Sound, First, GivesWay, MayLeave, Pushed, Popped, Unchanged};
+ghost use Rattle.heap.specs.Heaps.{Sound, First, LeftOut, MayLeave, Pushed, Popped, Unchanged};
 
 use crate::order::Ordered;
 use crate::sift::{sift_up, take_front};
@@ -57,13 +57,13 @@ impl<'a, T: Ordered> Heap<'a, T> {
         Ok(())
     }
 
-    /// Keeps one element more. Where no place is left, one of all that are kept and this one gives way, which may come out before
-    /// those that stay; it is answered.
+    /// Keeps one element more. Where no place is left, one of those that are kept and this one is left out and answered, which may
+    /// come out before all the others.
     pub fn offer(&mut self, x: T) -> Option<T>
         ensures named { self.new.items.ghost_name ≡ self.old.items.ghost_name }
         ensures long { length self.new.items.now ≡ length self.old.items.now }
         ensures offered { MatchOption result (Pushed x self.old.items.now self.old.len self.new.items.now self.new.len)
-            (λ y. GivesWay T.leq x y self.old.items.now self.old.len self.new.items.now self.new.len) }
+            (λ y. LeftOut T.leq x y self.old.items.now self.old.len self.new.items.now self.new.len) }
     {
         if self.push(x).is_ok() {
             return None;

@@ -32,7 +32,7 @@ counted_none n l c =
     ⊎_elim (λ h. get_or-replicate n c 0 0 h) (λ h. get_or_past (replicate n 0) c 0 (simp length-replicate h)) (cases_lt c n)
 
 -- one slot more, in which b stands
-pub counted_more : (counts l : List ℕ) (k b : ℕ) → k < length l → get_or l k 0 ≡ b → b < length counts →
+counted_more : (counts l : List ℕ) (k b : ℕ) → k < length l → get_or l k 0 ≡ b → b < length counts →
     Counted counts l k → Counted (set counts b (get_or counts b 0 + 1)) l (k + 1)
 counted_more counts l k b h here room old c =
     ⊎_elim
@@ -52,7 +52,7 @@ count_le : (l : List ℕ) (c k : ℕ) → count l c k ≤ k
 count_le l c k = let n = count_by-le-length (eqb c) (take k l) in omega (arith, length-take k l)
 
 -- what count_slot requires: a place for the channel, and a count that still fits
-pub count_room : (t counts l : List ℕ) (k b : ℕ) → length t ≡ 64 → Channel t b → k < 4096 → Counted counts l k → (b < 64) × (get_or counts b 0 < 4096)
+count_room : (t counts l : List ℕ) (k b : ℕ) → length t ≡ 64 → Channel t b → k < 4096 → Counted counts l k → (b < 64) × (get_or counts b 0 < 4096)
 count_room t counts l k b long here few old =
     let below = channel_below t b here in
     let was = old b in
@@ -76,6 +76,17 @@ complete_known t l whole i h =
     let yes = count_own l b i h refl in
     let some = sum_by-take-le (λ x. cond (eqb b x) 1 0) l (i + 1) in
     omega (arith, whole.each b)
+
+module _ (t counts l : List ℕ) (k : ℕ) (long : length t ≡ 64) (whole : Complete t l) (inside : k < length l) (old : Counted counts l k) where
+  -- the channel of the next slot can be counted
+  pub next_room : k < 4096 → (get_or l k 0 < 64) × (get_or counts (get_or l k 0) 0 < 4096)
+  next_room few = count_room t counts l k (get_or l k 0) long (complete_known t l whole k inside) few old
+
+  -- and is
+  pub next_counted : length counts ≡ 64 → Counted (set counts (get_or l k 0) (get_or counts (get_or l k 0) 0 + 1)) l (k + 1)
+  next_counted places =
+      let below = channel_below t (get_or l k 0) (complete_known t l whole k inside) in
+      counted_more counts l k (get_or l k 0) inside refl (omega arith) old
 
 -- a bound on the numbers of a table holds of every channel number, since past its end there are no readings
 pub readings_bound : (t : List ℕ) (n : ℕ) → ((c : ℕ) → c < length t → readings t c ≤ n) → (c : ℕ) → readings t c ≤ n

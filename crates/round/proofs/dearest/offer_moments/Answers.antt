@@ -1,12 +1,12 @@
 -- The moments at 0, and one slot more.
-use Rattle.std.proofs.Common.{◌+◌, [], List, get_or, length, take, refl, sym, subst, ◌∙◌, arith}
+use Rattle.std.proofs.Common.{◌+◌, [], List, length, take, refl, sym, subst, ◌∙◌, arith}
 use Rattle.std.proofs.lemmas.List.{append-nil, length-set}
 use Rattle.heap.proofs.Selecting.{last_none}
 use Rattle.heap.specs.Heaps.{AreLast}
 use Rattle.round.specs.Dearest.{costs_no_more, moments_to}
 use Rattle.round.specs.Walk.{Counted, Offered}
 use Rattle.round.specs.declared.costed_moment.CostedMoment.{CostedMoment}
-use Rattle.round.proofs.Counts.{counted_none, counted_more, count_room, channel_below, complete_known}
+use Rattle.round.proofs.Counts.{counted_none, next_counted, next_room}
 use Rattle.round.proofs.Offering.{slot_offered}
 use Rattle.round.proofs.dearest.offer_moments.Goals as goal
 
@@ -29,10 +29,9 @@ loop-i-init g c =
 
 pub count_slot-requires : goal.count_slot-requires
 count_slot-requires g c =
-    let list = c.args.list.now in
-    let t = c.args.readings.now.by_channel in
-    let i = c.loop-i.i in
-    count_room t c.loop-i.walk.counts list i (get_or list i 0) (omega arith) (complete_known t list c.requires.sound.1 i c.loop-i-test.true) (omega arith) c.loop-i.invariant.3
+    let sound = c.requires.sound in
+    next_room c.args.readings.now.by_channel c.loop-i.walk.counts c.args.list.now c.loop-i.i sound.0.long sound.1 c.loop-i-test.true c.loop-i.invariant.3
+    (omega (arith, sound.0.few, sound.1.full))
 
 pub loop-i-preserved : goal.loop-i-preserved
 loop-i-preserved g c =
@@ -41,9 +40,9 @@ loop-i-preserved g c =
     let t = c.args.readings.now.by_channel in
     let i = c.loop-i.i in
     let old = c.loop-i.invariant in
-    let below = channel_below t (get_or list i 0) (complete_known t list c.requires.sound.1 i c.loop-i-test.true) in
+    let sound = c.requires.sound in
     let counted : Counted c.count_slot.new.counts list (i + 1) =
-    rw c.count_slot.ensures (counted_more c.loop-i.walk.counts list i (get_or list i 0) c.loop-i-test.true refl (omega arith) old.3) in
+    rw c.count_slot.ensures (next_counted t c.loop-i.walk.counts list i sound.0.long sound.1 c.loop-i-test.true old.3 old.2) in
     let heap = c.offer-in-loop-i.new.heap in
     let offered : Offered f t c.count_slot.new.counts c.slot_at.result (length c.loop-i.heap.items.now) (take c.loop-i.heap.len c.loop-i.heap.items.now) (take heap.len heap.items.now) =
     rw (sym old.0, sym old.1) c.offer-in-loop-i.ensures.offered in

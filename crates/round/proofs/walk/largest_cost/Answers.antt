@@ -1,9 +1,9 @@
 -- The moments at 0, one slot more, and that something is found.
-use Rattle.std.proofs.Common.{◌+◌, get_or, refl, ⊎_elim, arith}
+use Rattle.std.proofs.Common.{◌+◌, refl, ⊎_elim, arith}
 use Rattle.std.proofs.lemmas.List.{length-set}
 use Rattle.round.specs.Lists.{Moment}
 use Rattle.round.specs.Walk.{Counted}
-use Rattle.round.proofs.Counts.{counted_none, counted_more, count_room, channel_below, complete_known}
+use Rattle.round.proofs.Counts.{counted_none, next_counted, next_room}
 use Rattle.round.proofs.Walks.{found_at, found_some, past_all}
 use Rattle.round.proofs.walk.largest_cost.Goals as goal
 
@@ -15,10 +15,8 @@ loop-i-init g c =
 
 pub count_slot-requires : goal.count_slot-requires
 count_slot-requires g c =
-    let list = c.args.list.now in
-    let t = c.args.readings.now.by_channel in
-    let i = c.loop-i.i in
-    count_room t c.loop-i.walk.counts list i (get_or list i 0) (omega arith) (complete_known t list c.requires.1 i c.loop-i-test.true) (omega arith) c.loop-i.invariant.3
+    next_room c.args.readings.now.by_channel c.loop-i.walk.counts c.args.list.now c.loop-i.i c.requires.0.long c.requires.1 c.loop-i-test.true c.loop-i.invariant.3
+    (omega (arith, c.requires.0.few, c.requires.1.full))
 
 pub loop-i-preserved : goal.loop-i-preserved
 loop-i-preserved g c =
@@ -27,9 +25,8 @@ loop-i-preserved g c =
     let i = c.loop-i.i in
     let slot = c.slot_at.result in
     let old = c.loop-i.invariant in
-    let below = channel_below t (get_or list i 0) (complete_known t list c.requires.1 i c.loop-i-test.true) in
     let counted : Counted c.count_slot.new.counts list (i + 1) =
-    rw c.count_slot.ensures (counted_more c.loop-i.walk.counts list i (get_or list i 0) c.loop-i-test.true refl (omega arith) old.3) in
+    rw c.count_slot.ensures (next_counted t c.loop-i.walk.counts list i c.requires.0.long c.requires.1 c.loop-i-test.true old.3 old.2) in
     let found = found_at _ t (i + 1) slot c.loop-i.found (omega arith) old.4 in
     let scanned = rw (old.0, old.1) at c.scan-found-in-loop-i.ensures in
     let more = scanned list (omega arith) (rw c.slot_at.ensures counted) found in
