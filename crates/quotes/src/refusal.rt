@@ -2,6 +2,8 @@
 ghost use Rattle.std.specs.Prelude.{◌≡◌};
 ghost use Rattle.quotes.specs.Refusals.{number};
 
+use lines::ShortMemory;
+
 /// The fault of a call.
 #[derive(Clone, Copy, PartialEq, Eq, Debug)]
 pub enum Refusal {
@@ -19,7 +21,7 @@ impl Refusal {
         ensures { result ≡ number self }
     {
         match self {
-            Refusal::ShortMemory => 18,
+            Refusal::ShortMemory => ShortMemory.number(),
             Refusal::SerialOutOfRange => 19,
             Refusal::NoLeast => 20,
         }

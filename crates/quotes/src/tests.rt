@@ -63,7 +63,7 @@ fn printed(rt: HostRuntime) -> Result<(), Fail> {
 }
 
 #[test]
-fn refused(rt: HostRuntime) -> Result<(), Fail> {
+fn refused_draft(rt: HostRuntime) -> Result<(), Fail> {
     let crowd = Crowd {
         first: 1,
         last: 1,
@@ -78,6 +78,11 @@ fn refused(rt: HostRuntime) -> Result<(), Fail> {
         return Err(Fail::new("a draft without a least"));
     };
     assert_eq!(rt; refusal.number(), 20);
+    Ok(())
+}
+
+#[test]
+fn refused_number_and_memory(rt: HostRuntime) -> Result<(), Fail> {
     let best = Best {
         total: 2,
         channels: 2,

@@ -2,18 +2,20 @@
 use Rattle.std.specs.Prelude.{ℕ, ◌+◌, ◌-◌, Bool, cond, ◌||◌, ◌==◌, not, nat_lt, List, [], ◌∷◌, length, slice_set, sum}
 use Rattle.std.specs.List.{list_any}
 use Rattle.round.specs.Lists.{readings}
-use Rattle.round.specs.Refusals.{number as row_number}
-use Rattle.roster.specs.Book.{number as roster_number}
 use Rattle.rows.specs.declared.refusal.Refusal.{Refusal}
-use Rattle.rows.specs.declared.refusal.Refusal.TheVariants.{Row, Roster}
-use Rattle.sequencing.specs.Refusals.{best_refused, first_of}
+use Rattle.rows.specs.declared.refusal.Refusal.TheVariants.{RowLength, ChannelAboveLimit, ReadingsOutOfRange, Absent, TotalAboveLimit, Sequencing}
+use Rattle.sequencing.specs.Refusals.{best_refused, first_of, number as best_number}
 
 -- the number of a refusal
 abbrev pub number : Refusal → ℕ
-number (Row refusal) = row_number refusal
-number (Roster refusal) = roster_number refusal
+number RowLength = 17
+number ChannelAboveLimit = 1
+number ReadingsOutOfRange = 2
+number Absent = 4
+number TotalAboveLimit = 5
+number (Sequencing refusal) = best_number refusal
 
--- a row has another length than 64
+-- these numbers are no row: they are not 64
 abbrev pub is_no_row : List ℕ → Bool
 is_no_row row = not (length row == 64)
 
@@ -25,7 +27,7 @@ has_above row = list_any (nat_lt 4096) row
 abbrev pub table_refused : List ℕ → ℕ
 table_refused row = first_of ((17, is_no_row row) ∷ (2, has_above row) ∷ (5, nat_lt 4096 (sum row)) ∷ [])
 
--- a call that is refused by n, and where it is not (n is 0) by m
+-- n, or m where n is 0: refused by n, and where that is no refusal by m
 abbrev pub or_else : ℕ → ℕ → ℕ
 or_else n m = cond (n == 0) m n
 

@@ -6,7 +6,6 @@ mod refusal;
 mod row;
 mod trial;
 
-pub use checks::check;
 pub use refusal::Refusal;
 pub use row::best;
-pub use trial::{Trial, try_best};
+pub use trial::{Trial, trial_best};

@@ -3,12 +3,21 @@ ghost use Rattle.std.specs.Prelude.{◌≡◌};
 ghost use Rattle.rows.specs.Rows.{number};
 
 /// The first fault of a call on a row, in the order of the checks.
+// One value for each number: what `round` and the roster say of readings is not carried, since they have a value each for some.
 #[derive(Clone, Copy, PartialEq, Eq, Debug)]
 pub enum Refusal {
-    /// The row is no table of readings.
-    Row(round::Refusal),
-    /// The roster refuses what is asked of the row's channels.
-    Roster(roster::Refusal),
+    /// The row is not 64 long.
+    RowLength,
+    /// The channel is above 63.
+    ChannelAboveLimit,
+    /// The readings to be tried are 0 or above 4,096, or a number of the row is above 4,096.
+    ReadingsOutOfRange,
+    /// The channel is not in the row.
+    Absent,
+    /// The readings of all channels are, or would be, above 4,096.
+    TotalAboveLimit,
+    /// Best of the row's channels is refused.
+    Sequencing(sequencing::Refusal),
 }
 
 impl Refusal {
@@ -17,39 +26,22 @@ impl Refusal {
         ensures { result ≡ number self }
     {
         match self {
-            Refusal::Row(refusal) => refusal.number(),
-            Refusal::Roster(refusal) => refusal.number(),
+            Refusal::RowLength => 17,
+            Refusal::ChannelAboveLimit => 1,
+            Refusal::ReadingsOutOfRange => 2,
+            Refusal::Absent => 4,
+            Refusal::TotalAboveLimit => 5,
+            Refusal::Sequencing(refusal) => refusal.number(),
         }
     }
 }
 
-impl From<round::Refusal> for Refusal {
-    ghost use Rattle.rows.specs.declared.refusal.Refusal.TheVariants.{Row};
-
-    ghost from_gives = { λ refusal own. own ≡ Row refusal };
-
-    fn from(refusal: round::Refusal) -> Refusal {
-        Refusal::Row(refusal)
-    }
-}
-
-impl From<roster::Refusal> for Refusal {
-    ghost use Rattle.rows.specs.declared.refusal.Refusal.TheVariants.{Roster};
-
-    ghost from_gives = { λ refusal own. own ≡ Roster refusal };
-
-    fn from(refusal: roster::Refusal) -> Refusal {
-        Refusal::Roster(refusal)
-    }
-}
-
 impl From<sequencing::Refusal> for Refusal {
-    ghost use Rattle.roster.specs.declared.refusal.Refusal.TheVariants.{Sequencing};
-    ghost use Rattle.rows.specs.declared.refusal.Refusal.TheVariants.{Roster};
+    ghost use Rattle.rows.specs.declared.refusal.Refusal.TheVariants.{Sequencing};
 
-    ghost from_gives = { λ refusal own. own ≡ Roster (Sequencing refusal) };
+    ghost from_gives = { λ refusal own. own ≡ Sequencing refusal };
 
     fn from(refusal: sequencing::Refusal) -> Refusal {
-        Refusal::Roster(refusal.into())
+        Refusal::Sequencing(refusal)
     }
 }

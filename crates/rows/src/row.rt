@@ -32,5 +32,17 @@ pub fn best<P: Penalty>(
 pub(crate) fn table(row: &[u16]) -> Result<Readings, Refusal>
     ensures { MayRefuse (table_refused row.now) (λ t. t.by_channel ≡ row.now) number Unit result }
 {
-    Ok(Readings::try_from(row)?)
+    match Readings::try_from(row) {
+        Ok(readings) => Ok(readings),
+        Err(round::Refusal::RowLength) => Err(Refusal::RowLength),
+        Err(round::Refusal::ReadingsAboveLimit) => Err(Refusal::ReadingsOutOfRange),
+        Err(round::Refusal::TotalAboveLimit) => Err(Refusal::TotalAboveLimit),
+        // Of these each is refused for its list.
+        Err(
+            round::Refusal::NoChannel
+            | round::Refusal::ListLength
+            | round::Refusal::NotAChannel { .. }
+            | round::Refusal::WrongCount { .. },
+        ) => unreachable!(),
+    }
 }

@@ -6,7 +6,6 @@ ghost use Rattle.sequencing.specs.Refusals.{MayRefuse};
 ghost use Rattle.rows.specs.Rows.{changed, number, row_refused};
 ghost use Rattle.rows.specs.Trials.{row_before, tried, tried_refused};
 
-use crate::checks::check;
 use crate::refusal::Refusal;
 use crate::row::best;
 use matching::{Ready, Window};
@@ -18,7 +17,7 @@ use sequencing::Best;
 pub struct Trial<'a> {
     row: &'a mut [u16],
     channel: u8,
-    // The number that stood there before; nothing where none was changed.
+    // The number that stood there before; nothing where the trial changed no number.
     before: Option<u16>,
 }
 
@@ -29,11 +28,24 @@ impl<'a> Trial<'a> {
         ensures row { result.row.now ≡ tried row.old channel readings }
         ensures before { row_before result ≡ row.old }
     {
-        let mut before = None;
-        if check(row, channel, readings).is_ok() {
-            before = row.get(usize::from(channel)).copied();
-            put(row, channel, readings);
+        if Trial::check(row, channel, readings).is_ok() {
+            return Trial::open(row, channel, readings);
         }
+        Trial {
+            row,
+            channel,
+            before: None,
+        }
+    }
+
+    // Changes the readings of a channel, where the row has a place for them.
+    fn open(row: &'a mut [u16], channel: u8, readings: u16) -> Trial<'a>
+        ensures named { result.row.ghost_name ≡ row.entry.ghost_name }
+        ensures row { result.row.now ≡ changed row.old channel readings }
+        ensures before { row_before result ≡ row.old }
+    {
+        let before = row.get(usize::from(channel)).copied();
+        put(row, channel, readings);
         Trial {
             row,
             channel,
@@ -58,7 +70,7 @@ impl<'a> Trial<'a> {
 }
 
 impl Drop for Trial<'_> {
-    /// Ends the trial: the old number stands again.
+    /// Ends the trial: the old number stands again. What it leaves behind `row`, its first field, is the row before it.
     fn drop(self)
         ensures { self.exit.0.now ≡ row_before self.entry }
     {
@@ -85,7 +97,7 @@ fn put(row: &mut [u16], channel: u8, readings: u16)
 }
 
 /// Best of a row with other readings of one channel. The row is as it was, whatever is answered.
-pub fn try_best<P: Penalty>(
+pub fn trial_best<P: Penalty>(
     penalty: &P,
     row: &mut [u16],
     channel: u8,
@@ -100,8 +112,8 @@ pub fn try_best<P: Penalty>(
         (memory windows.old ready.old list.old) (memory windows.new ready.new list.new))
         number (memory windows.new ready.new list.new ≡ memory windows.old ready.old list.old) result }
 {
-    check(row, channel, readings)?;
-    let trial = Trial::new(row, channel, readings);
+    Trial::check(row, channel, readings)?;
+    let trial = Trial::open(row, channel, readings);
     let best = trial.best(penalty, windows, ready, list)?;
     Ok(best)
 }

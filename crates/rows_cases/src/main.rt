@@ -12,7 +12,7 @@ use lines::{write_best, write_row};
 use penalty::{AbsoluteDeviation, Layered, Penalty, Stop, Threshold, TwoSided};
 use query::Query;
 use quoting::write_quote;
-use rows::{Trial, best, check, try_best};
+use rows::{Trial, best, trial_best};
 use std::alloc::Global;
 use std::fmt::Write;
 use std::io::Read;
@@ -63,7 +63,7 @@ fn write_trial<P: Penalty>(
         ready,
         list,
     } = memory;
-    match check(row, channel, readings) {
+    match Trial::check(row, channel, readings) {
         Ok(()) => writeln!(lines, "CHECKED")?,
         Err(refusal) => writeln!(lines, "CHECK {}", refusal.number())?,
     }
@@ -72,7 +72,7 @@ fn write_trial<P: Penalty>(
         trial.best(penalty, windows, ready, list)
     };
     write_best(lines, "TRIAL", tried, list)?;
-    let tried = try_best(penalty, row, channel, readings, windows, ready, list);
+    let tried = trial_best(penalty, row, channel, readings, windows, ready, list);
     write_best(lines, "TRIED", tried, list)
 }
 

@@ -1,6 +1,6 @@
 // Rows and trials worked by hand.
 use penalty::AbsoluteDeviation;
-use rows::{Refusal, Trial, best, check, try_best};
+use rows::{Refusal, Trial, best, trial_best};
 use sequencing::{Best, Outcome};
 use std::test::Fail;
 use test_support::Memory;
@@ -40,7 +40,7 @@ fn tries_one_reading_more(rt: HostRuntime) -> Result<(), Fail> {
         assert!(rt; list.starts_with(&[0, 1, 0, 1]));
     }
     assert_eq!(rt; row, two_channels());
-    let answer = try_best(
+    let answer = trial_best(
         &penalty,
         &mut row,
         1,
@@ -79,7 +79,7 @@ fn a_refused_trial_changes_nothing(rt: HostRuntime) -> Result<(), Fail> {
         drop(trial);
         assert_eq!(rt; row, two_channels());
     }
-    assert_eq!(rt; check(&row, 0, 4095), Ok(()));
-    assert_eq!(rt; check(&row[1..], 64, 0).map_err(Refusal::number), Err(17));
+    assert_eq!(rt; Trial::check(&row, 0, 4095), Ok(()));
+    assert_eq!(rt; Trial::check(&row[1..], 64, 0).map_err(Refusal::number), Err(17));
     Ok(())
 }

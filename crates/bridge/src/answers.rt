@@ -1,15 +1,17 @@
-// What is answered of a bridge: its best list, the best of a trial, and its quote.
-use crate::bridge::Bridge;
+// What is answered about a bridge: its best list, the best of a trial, and its quote.
+ghost use Rattle.std.specs.Prelude.{◌≡◌};
+
+use crate::input::Bridge;
 use crate::memory::Memory;
 use lines::{Audited, LINE_BYTES, Line, Reading};
 use matching::Window;
 use penalty::{LIMIT, Penalty};
 use quotes::{Draft, figure};
-use rows::{Trial, best, check};
+use rows::{Trial, best};
 use sequencing::{Best, Outcome};
 use std::io::Write;
 
-/// Answers what is asked of a bridge.
+/// Answers what is asked about a bridge.
 pub fn answer<P: Penalty, W: Write>(
     penalty: &P,
     mut bridge: Bridge,
@@ -46,13 +48,15 @@ fn print_least<W: Write>(best: Best, out: &mut W) -> anyhow::Result<()> {
 }
 
 // Prints the readings of a best list in the order of their slots.
-fn print_slots<W: Write>(best: Best, windows: &mut [Window], out: &mut W) -> anyhow::Result<()> {
+fn print_slots<W: Write>(
+    best: Best,
+    windows: &mut [Window; LIMIT as usize],
+    out: &mut W,
+) -> anyhow::Result<()> {
     if matches!(best.outcome, Outcome::NoLeast(_)) {
         return Ok(());
     }
-    let Some(windows) = windows.get_mut(..usize::from(best.total)) else {
-        return Ok(());
-    };
+    let windows = &mut windows[..usize::from(best.total)];
     windows.sort_unstable_by_key(|window| window.slot);
     for window in windows.iter() {
         let line = Line::Reading(Reading {
@@ -73,7 +77,9 @@ fn print_trial<P: Penalty, W: Write>(
     bridge: &mut Bridge,
     memory: &mut Memory,
     out: &mut W,
-) -> anyhow::Result<()> {
+) -> anyhow::Result<()>
+    ensures { bridge.new.row ≡ bridge.old.row }
+{
     let Bridge {
         channel,
         readings,
@@ -85,7 +91,7 @@ fn print_trial<P: Penalty, W: Write>(
         ready,
         list,
     } = memory;
-    if let Err(refusal) = check(row, *channel, *readings) {
+    if let Err(refusal) = Trial::check(row, *channel, *readings) {
         return print_refused(refusal.number(), out);
     }
     let trial = Trial::new(row, *channel, *readings);

@@ -5,7 +5,7 @@ use Rattle.std.proofs.lemmas.Result.{err_from_is_err_and}
 use Rattle.round.specs.Lists.{readings}
 use Rattle.rows.proofs.Numbers.{trial_as_table}
 use Rattle.rows.specs.Rows.{changed, has_above, table_refused}
-use Rattle.rows.proofs.checks.check.Goals as goal
+use Rattle.rows.proofs.trial.Trial.check.Goals as goal
 
 pub returns-in_err-table : goal.returns-in_err-table
 returns-in_err-table c =

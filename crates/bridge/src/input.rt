@@ -1,7 +1,7 @@
 // What is read of a bridge: the serial number of its quote, a trial, and its channels with their readings.
 use penalty::CHANNELS;
 
-/// A bridge, and what is asked of it.
+/// A bridge, and what is asked about it.
 #[derive(Clone, Copy)]
 pub struct Bridge {
     /// The serial number of the quote.
@@ -17,7 +17,7 @@ pub struct Bridge {
 impl Bridge {
     /// The bridge that the bytes give: the serial number (4 bytes), the channel and the readings of the trial (1 and 2), and then
     /// each channel with its readings (1 and 2). A channel that stands twice has its last readings; one above 63 is left out.
-    pub fn of(bytes: &[u8]) -> Option<Bridge> {
+    pub fn parse(bytes: &[u8]) -> Option<Bridge> {
         let ([s3, s2, s1, s0, channel, n1, n0], rest) = bytes.split_first_chunk::<7>()?;
         let mut row = [0; CHANNELS];
         let (records, _rest) = rest.as_chunks::<3>();
