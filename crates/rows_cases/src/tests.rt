@@ -70,7 +70,7 @@ fn a_refused_trial_changes_nothing(rt: HostRuntime) -> Result<(), Fail> {
         (0, 4096, 5),
     ] {
         assert_eq!(rt;
-            check(&row, channel, readings).map_err(Refusal::number),
+            Trial::check(&row, channel, readings).map_err(Refusal::number),
             Err(number)
         );
         let trial = Trial::new(&mut row, channel, readings);
@@ -80,6 +80,9 @@ fn a_refused_trial_changes_nothing(rt: HostRuntime) -> Result<(), Fail> {
         assert_eq!(rt; row, two_channels());
     }
     assert_eq!(rt; Trial::check(&row, 0, 4095), Ok(()));
-    assert_eq!(rt; Trial::check(&row[1..], 64, 0).map_err(Refusal::number), Err(17));
+    assert_eq!(rt;
+        Trial::check(&row[1..], 64, 0).map_err(Refusal::number),
+        Err(17)
+    );
     Ok(())
 }
