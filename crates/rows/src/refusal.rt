@@ -3,7 +3,7 @@ ghost use Rattle.std.specs.Prelude.{◌≡◌};
 ghost use Rattle.rows.specs.Rows.{number};
 
 /// The first fault of a call on a row, in the order of the checks.
-// One value for each number: what `round` and the roster say of readings is not carried, since they have a value each for some.
+// Values of its own, one for each number: both `round` and the roster have one for 5.
 #[derive(Clone, Copy, PartialEq, Eq, Debug)]
 pub enum Refusal {
     /// The row is not 64 long.

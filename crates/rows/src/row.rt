@@ -37,7 +37,7 @@ pub(crate) fn table(row: &[u16]) -> Result<Readings, Refusal>
         Err(round::Refusal::RowLength) => Err(Refusal::RowLength),
         Err(round::Refusal::ReadingsAboveLimit) => Err(Refusal::ReadingsOutOfRange),
         Err(round::Refusal::TotalAboveLimit) => Err(Refusal::TotalAboveLimit),
-        // Of these each is refused for its list.
+        // These are said of a list, and not of a table.
         Err(
             round::Refusal::NoChannel
             | round::Refusal::ListLength
