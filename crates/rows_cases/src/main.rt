@@ -1,14 +1,13 @@
 // Answers many rows, case after case on standard input: the best of each, a trial of it, and the quote of its best.
 #![tactic(auto)]
 
-mod lines;
 mod query;
 mod quoting;
 #[cfg(test)]
 mod tests;
+mod writing;
 
 use cases::Cases;
-use lines::{write_best, write_row};
 use penalty::{AbsoluteDeviation, Layered, Penalty, Stop, Threshold, TwoSided};
 use query::Query;
 use quoting::write_quote;
@@ -17,6 +16,7 @@ use std::alloc::Global;
 use std::fmt::Write;
 use std::io::Read;
 use test_support::Memory;
+use writing::{write_best, write_row};
 
 // The lines of a case under a penalty.
 fn lines_of<P: Penalty>(heap: Global, penalty: &P, query: &Query) -> anyhow::Result<String> {
