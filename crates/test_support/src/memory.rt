@@ -1,4 +1,6 @@
 // Memory for the lists of tests and of the programs of many cases.
+ghost use Rattle.std.specs.Prelude.{◌≡◌, IfOk, vec_len};
+
 use crate::windows::EMPTY;
 use matching::{Ready, Window};
 use std::alloc::{AllocError, Global};
@@ -18,7 +20,9 @@ impl Memory {
         windows: usize,
         ready: usize,
         list: usize,
-    ) -> Result<Memory, AllocError> {
+    ) -> Result<Memory, AllocError>
+        ensures { IfOk result (λ m. (vec_len m.windows ≡ windows) × (vec_len m.ready ≡ ready) × (vec_len m.list ≡ list)) }
+    {
         Ok(Memory {
             windows: vec![in heap; EMPTY; windows]?,
             ready: vec![in heap; Ready::default(); ready]?,
