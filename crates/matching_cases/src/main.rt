@@ -3,7 +3,6 @@
 
 #[cfg(test)]
 mod tests;
-mod worked;
 
 use cases::{Case, Cases};
 use matching::{Crowd, Ready, Unplaced, Window, place};

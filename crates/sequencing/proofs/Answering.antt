@@ -36,12 +36,12 @@ HasLeast (Least n below) = Unit {0}
 HasLeast (NoLeast block) = ⊥
 
 -- a list is shown exactly where there is one
-shows_exactly : (f : Cost) (t : List ℕ) (b : ℕ) (ws : List Window) (l : List ℕ) (a : Listed) → Shows f t b ws l a → (a ≡ Within) ↔ HasList f t b
+pub shows_exactly : (f : Cost) (t : List ℕ) (b : ℕ) (ws : List Window) (l : List ℕ) (a : Listed) → Shows f t b ws l a → (a ≡ Within) ↔ HasList f t b
 shows_exactly f t b ws l Within shown = (λ _. (l, shown.0, shown.1), λ _. refl)
 shows_exactly f t b ws l (Over block) shown = (λ e. absurd (subst IsOver e tt), λ has. absurd (block_rules_out f t b block shown has))
 
 -- the forbidden cost is the largest of every list exactly where no least is shown
-shows_none : (f : Cost) (t : List ℕ) (ws : List Window) (l : List ℕ) (outcome : Outcome) → Capped f → (c : ℕ) × Channel t c → ShowsBest f t ws l outcome →
+pub shows_none : (f : Cost) (t : List ℕ) (ws : List Window) (l : List ℕ) (outcome : Outcome) → Capped f → (c : ℕ) × Channel t c → ShowsBest f t ws l outcome →
     HasNoLeast outcome ↔ AllForbidden f t
 shows_none f t ws l (Least n below) capped some shown = (
   λ none. absurd (subst HasLeast none.1 tt),
