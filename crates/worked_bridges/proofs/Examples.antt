@@ -10,7 +10,7 @@ use Rattle.penalty.specs.Layers.{banded, stopped, weighted}
 use Rattle.penalty.specs.Maps.{map_capped, map_valley, relax_map, stop_capped, stop_valley, weight_maps}
 use Rattle.penalty.specs.TwoSided.{largest, root, two_sided}
 use Rattle.penalty.specs.TwoSidedLaws.{two_sided_capped, two_sided_valley}
-use Rattle.worked_bridges.specs.Bridges.{Plain, TwoSided, UnderLayers, WorkedBridges, crowd, in_slot_two, in_turn, moment, one, reading, row, three, two, uneven}
+use Rattle.worked_bridges.specs.Bridges.{Plain, TwoSided, UnderLayers, WorkedBridges, crowd, in_slot_two, in_turn, moment, one, reading, row, three, twice, two, uneven}
 use Rattle.worked_bridges.proofs.Answering.{finds, finds_none, has_least, has_no_least}
 use Rattle.worked_bridges.proofs.Slots.{crowded_is}
 use Rattle.worked_bridges.proofs.Windows.{first_blocked, open_windows}
@@ -30,6 +30,11 @@ plain = record {
   two_within = finds absolute two absolute_valley 1 in_turn (0 ∷ 1 ∷ []) refl;
   two_turned = λ placed. ⊎_elim (λ less. omega arith) (λ tie. omega (arith, tie.1)) (placed.soonest 1 0 (omega arith) (omega arith) (omega arith) (omega arith));
   two_over = finds_none absolute two 0 (moment 1 0) (first_blocked absolute two 0 1 0 refl);
+  two = has_least absolute two refl absolute_capped absolute_valley 1 in_turn (0 ∷ 1 ∷ []) (Some (moment 1 0)) (omega arith) refl 1 0 refl
+      (omega arith, first_blocked absolute two 0 1 0 refl);
+  twice = has_least absolute twice refl absolute_capped absolute_valley 1 (reading 0 1 1 1 1 ∷ reading 0 2 3 3 3 ∷ reading 1 1 2 2 2 ∷ []) (0 ∷ 1 ∷ 0 ∷ [])
+      (Some (moment 1 0)) (omega arith) refl 1 0 refl
+      (omega arith, first_blocked absolute twice 0 1 0 refl);
   three_windows = open_windows absolute three 1 in_slot_two refl;
   two_two = crowded_is in_slot_two 2 2 3 refl;
   one_two = crowded_is in_slot_two 1 2 3 refl;

@@ -18,7 +18,7 @@ row n first = first ++ replicate (64 - length first) n
 abbrev pub bridge : List ℕ → List ℕ
 bridge = row 0
 
--- the bridges (1), (1,1), (1,1,1) and (3,2)
+-- the bridges (1), (1,1), (1,1,1), (2,1) and (3,2)
 abbrev pub one : List ℕ
 one = bridge (1 ∷ [])
 
@@ -27,6 +27,9 @@ two = bridge (1 ∷ 1 ∷ [])
 
 abbrev pub three : List ℕ
 three = bridge (1 ∷ 1 ∷ 1 ∷ [])
+
+abbrev pub twice : List ℕ
+twice = bridge (2 ∷ 1 ∷ [])
 
 abbrev pub uneven : List ℕ
 uneven = bridge (3 ∷ 2 ∷ [])
@@ -61,6 +64,10 @@ pub record Plain : Type 0 where
   pub two_turned : Placement (reading 0 1 1 2 2 ∷ reading 1 1 1 2 1 ∷ []) → ⊥
   -- at 0 the moment after slot 1 is blocked at channel 0
   pub two_over : FindsNone absolute two 0 (moment 1 0)
+  -- so the least is 1
+  pub two : HasLeast absolute two 1 in_turn (0 ∷ 1 ∷ []) (Some (moment 1 0))
+  -- (2,1): the least is 1, and the list 0 1 0
+  pub twice : HasLeast absolute twice 1 (reading 0 1 1 1 1 ∷ reading 0 2 3 3 3 ∷ reading 1 1 2 2 2 ∷ []) (0 ∷ 1 ∷ 0 ∷ []) (Some (moment 1 0))
   -- (1,1,1): at 1 the three windows are 2 to 2
   pub three_windows : AreOpen absolute three 1 in_slot_two
   -- the slots 2 to 2, 1 to 2 and 2 to 3 are crowded, with three windows inside each; 1 to 3 are not
