@@ -1,0 +1,3 @@
+-- The lemmas of this crate.
+mod Exchanged
+mod Over
