@@ -93,7 +93,7 @@ def random_roster(rng, two_sided, layers):
 
 
 def groups():
-    """The groups: their bottom, their name and their rosters. Of those with layers 20 rosters at least have another least by them."""
+    """The groups: their bottom, their name and their rosters; by the layers 20 rosters of a group at least have another least."""
     for two_sided, bottom in enumerate(BOTTOMS):
         for total in range(1, 8):
             yield two_sided, f"{bottom} TOTAL {total}", list(every_roster(total))

@@ -51,7 +51,7 @@ impl Tally {
 
     /// The counts of one answer of best.
     pub fn best(answer: Result<Best, Refusal>, agrees: bool) -> Tally {
-        let asked = Tally {
+        let answered = Tally {
             disagreements: u64::from(!agrees),
             ..Tally::default()
         };
@@ -60,10 +60,10 @@ impl Tally {
                 leasts: 1,
                 sum: least,
                 zero: u64::from(least == 0),
-                ..asked
+                ..answered
             },
-            Ok(Outcome::NoLeast(_)) => Tally { none: 1, ..asked },
-            Err(_) => asked,
+            Ok(Outcome::NoLeast(_)) => Tally { none: 1, ..answered },
+            Err(_) => answered,
         }
     }
 
