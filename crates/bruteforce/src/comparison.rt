@@ -1,6 +1,9 @@
 // The answers of list and best, held against the enumeration of all complete lists.
+ghost use Rattle.std.specs.Prelude.{◌≡◌, ℕ, ◌<◌, ◌↔◌, IsTrue, MatchOption, sum};
+ghost use Rattle.round.specs.Lists.{Complete, LargestCost, Sound, count as x_of, readings as d_of};
+
 use crate::enumeration::{Enumeration, count, largest_cost};
-use penalty::{Penalty, TOP};
+use penalty::{CHANNELS, Penalty, TOP};
 use roster::Refusal;
 use round::Readings;
 use sequencing::{Best, Listed, Outcome};
@@ -51,14 +54,33 @@ impl<'a, P: Penalty> Expected<'a, P> {
     }
 
     // The largest cost of a list, if it is complete.
-    fn costs(&self, list: &[u8]) -> Option<u64> {
+    fn costs(&self, list: &[u8]) -> Option<u64>
+        ensures { let t = self.now.readings.now.by_channel in
+            MatchOption result (¬ Complete t list.now) (λ n. Complete t list.now × (Sound t → LargestCost (P.cost self.now.penalty.now) t list.now n)) }
+    {
         is_complete(self.readings, list).then(|| largest_cost(self.penalty, self.readings, list))
     }
 }
 
-// Whether a list has as many slots as the table has readings, and each channel as often as it has.
-fn is_complete(readings: &Readings, list: &[u8]) -> bool {
-    list.len() == usize::from(readings.total())
-        && (0..=u8::MAX).all(|channel| count(list, channel, readings.total())
-            == readings.of(channel))
+// Whether a list has as many slots as the table has readings, and each channel of the table, and no other, as often as it has.
+#[tactic(auto, using(crate::proofs::Counted::complete_from, crate::proofs::Counted::complete_each))]
+fn is_complete(readings: &Readings, list: &[u8]) -> bool
+    ensures { IsTrue result ↔ Complete readings.now.by_channel list.now }
+{
+    if list.len() != usize::from(readings.total()) {
+        return false;
+    }
+    list.iter().all(|&channel| readings.of(channel) > 0) && has_each(readings, list)
+}
+
+// Whether each channel number stands in the slots of the round as often as the table says.
+fn has_each(readings: &Readings, list: &[u8]) -> bool
+    ensures { IsTrue result ↔ ((c : ℕ) → c < 64 → x_of list.now c (sum readings.now.by_channel) ≡ d_of readings.now.by_channel c) }
+{
+    for channel in 0..CHANNELS as u8 {
+        if count(list, channel, readings.total()) != readings.of(channel) {
+            return false;
+        }
+    }
+    true
 }

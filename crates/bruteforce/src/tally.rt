@@ -62,7 +62,10 @@ impl Tally {
                 zero: u64::from(least == 0),
                 ..answered
             },
-            Ok(Outcome::NoLeast(_)) => Tally { none: 1, ..answered },
+            Ok(Outcome::NoLeast(_)) => Tally {
+                none: 1,
+                ..answered
+            },
             Err(_) => answered,
         }
     }
