@@ -1,0 +1,4 @@
+-- The lemmas of this crate.
+mod Counted
+mod Exchanged
+mod Over
