@@ -307,10 +307,10 @@ wait_more waiting k p below all c = ⊎_elim
     (cases_eq c k)
 
 -- they do so at first
-pub wait_first : (c : ℕ) → is_ready (replicate 64 (Some 0)) c ≡ false
-wait_first c = ⊎_elim
-    (λ below. ap is_none (get_or-replicate 64 c (Some 0) (Some 0) below))
-    (λ past. ap is_none (get_or_past (replicate 64 (Some 0)) c (Some 0) past))
+pub wait_first : (n c : ℕ) → is_ready (replicate 64 (Some n)) c ≡ false
+wait_first n c = ⊎_elim
+    (λ below. ap is_none (get_or-replicate 64 c (Some n) (Some 0) below))
+    (λ past. ap is_none (get_or_past (replicate 64 (Some n)) c (Some 0) past))
     (cases_lt c 64)
 
 -- one place before: its channel starts there, the others as they did

@@ -172,8 +172,9 @@ fn first_places(windows: &[Window]) -> [Option<u16>; CHANNELS]
     requires { Arranged (blank windows.now) }
     ensures { Starts (blank windows.now) result }
 {
-    // `Some` for a channel without readings too, since `None` would mean that its next reading is ready.
-    let mut waiting = [Some(0); CHANNELS];
+    // `Some` for a channel without readings too, since `None` would mean that its next reading is ready. The place after the last is
+    // seen to have none before any window is looked at.
+    let mut waiting = [Some(windows.len() as u16); CHANNELS];
     for (place, window) in windows.iter().enumerate().rev() {
         waiting[usize::from(window.channel)] = Some(place as u16);
     }

@@ -4,7 +4,7 @@ ghost use Rattle.std.proofs.Common.{rules};
 ghost use Rattle.penalty.specs.Deviation.{size};
 ghost use Rattle.penalty.specs.Bottoms.{bottom_valley, size_valley};
 
-use crate::deviation::Deviation;
+use crate::deviation::deviation;
 use crate::interface::{Penalty, TOP};
 use crate::question::Question;
 
@@ -28,8 +28,7 @@ impl Penalty for AbsoluteDeviation {
         if !question.in_domain() {
             return TOP;
         }
-        let q = Deviation::of(question);
-        u64::from(q.ahead) + u64::from(q.behind)
+        deviation(question).unsigned_abs()
     }
 
     // No default in the trait: `0 ≡ depth self.now` does not prove there, since an impl may say another depth.

@@ -3,7 +3,7 @@ ghost use Rattle.penalty.specs.Layers.{stopped};
 ghost use Rattle.penalty.specs.Maps.{stop_capped, stop_valley};
 ghost use Rattle.std.proofs.Common.{rules};
 
-use crate::deviation::Deviation;
+use crate::deviation::deviation;
 use crate::interface::{Penalty, TOP};
 use crate::layer::Layer;
 use crate::question::Question;
@@ -25,7 +25,7 @@ impl Layer for Stop {
     ghost valley = { λ l f. stop_valley l.limit };
 
     fn cost_over<P: Penalty>(&self, below: &P, question: Question) -> u64 {
-        if Deviation::of(question).ahead > self.limit.value() {
+        if deviation(question) > i64::from(self.limit.value()) {
             return TOP;
         }
         below.cost(question)

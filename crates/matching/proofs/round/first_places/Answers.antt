@@ -22,7 +22,7 @@ loop-place-init c =
     let count : iterator.iter.count ≡ 0 = cc in
     let all : iterator.iter.iter.rest.now ≡ ws = cc in
     let long = length-blank ws in
-    (count, all ∙ sym (take_all (length iterator.iter.iter.rest.now) ws (omega (arith, ap length all))), omega (arith, ap length all), refl, wait_first, λ j from to. absurd (omega (arith, ap length all)))
+    (count, all ∙ sym (take_all (length iterator.iter.iter.rest.now) ws (omega (arith, ap length all))), omega (arith, ap length all), refl, wait_first _, λ j from to. absurd (omega (arith, ap length all)))
 
 pub offset_bounds-waiting-from : goal.offset_bounds-waiting-from
 offset_bounds-waiting-from c = let below = bounds-waiting-from c in omega arith
