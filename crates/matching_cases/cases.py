@@ -3,9 +3,9 @@
 
 The answers come from the rules as docs/RULES.md states them. Whether an assignment exists is found by
 going through all of them for small sets, and by counting the windows inside every interval for larger
-ones; the slots of a placement are found slot by slot over all windows, with no heap. Nothing here is
-shared with the Rattle code. A case has the number of ready places (1 byte), the number of windows (2), and
-for each window its channel (1), reading, earliest and latest (2 each), numbers with the high byte first.
+ones; the slots of a placement are those of tools/rules.py. Nothing here is shared with the Rattle code.
+A case has the number of ready places (1 byte), the number of windows (2), and for each window its
+channel (1), reading, earliest and latest (2 each), numbers with the high byte first.
 """
 
 import random

@@ -2,8 +2,8 @@
 """Writes the cases of this crate: `stdin`, and the lines that they must give, `stdout`.
 
 The answers come from the rules as docs/RULES.md states them (tools/rules.py), in whole numbers without a root table:
-the largest v with v * v <= 1000 * s is looked for upwards from 0. Nothing here is shared with the Rattle code. A case has 21 bytes, numbers with the high byte first: the bottom (0 absolute deviation,
-1 two-sided), a channel and its weight (1 and 2 bytes), the tolerance and the limit (4 each), and the
+the largest v with v * v <= 1000 * s is looked for upwards from 0. Nothing here is shared with the
+Rattle code. A case has 21 bytes, numbers with the high byte first: the bottom (0 absolute deviation, 1 two-sided), a channel and its weight (1 and 2 bytes), the tolerance and the limit (4 each), and the
 question: slots (2), channel (1), readings, count and slot (2 each).
 """
 

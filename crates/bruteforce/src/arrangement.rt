@@ -2,7 +2,8 @@
 ghost use Rattle.std.specs.Prelude.{◌≡◌, ◌+◌, ◌<◌, ◌≤◌, IfSome, IsPermutation, MatchBool, length, slice_index};
 ghost use Rattle.bruteforce.specs.Arrangements.{After};
 
-/// Brings a list into its next arrangement in lexicographic order, and says whether there is one.
+/// Brings a list into its next arrangement in lexicographic order, and says whether there is one. That none lies between, and that
+/// none comes after where it says so, is not in the contract: the number of lists shows it.
 pub fn next_arrangement(list: &mut [u8]) -> bool
     ensures arranged { IsPermutation list.old list.new }
     ensures after { MatchBool result (After list.old list.new) (list.new ≡ list.old) }

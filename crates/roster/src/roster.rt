@@ -59,7 +59,7 @@ impl<P> Roster<P> {
         if !self.has(channel) {
             return Err(Refusal::Absent);
         }
-        self.set(channel, readings)
+        self.set(channel, readings) // in the place of those that it had
     }
 
     /// Removes a channel that is there.

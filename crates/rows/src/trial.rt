@@ -13,7 +13,7 @@ use penalty::Penalty;
 use sequencing::Best;
 
 /// A row in which the readings of one channel are changed. While it is there nobody else reads or changes the row, and when it
-/// ends, on every way out, the row is as it was.
+/// is dropped, on every way out, the row is as it was.
 pub struct Trial<'a> {
     row: &'a mut [u16],
     channel: u8,

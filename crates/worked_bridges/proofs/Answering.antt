@@ -17,7 +17,7 @@ use Rattle.sequencing.specs.declared.answer.Outcome.{Outcome}
 use Rattle.sequencing.specs.declared.answer.Outcome.TheVariants.{Least, NoLeast}
 use Rattle.sequencing.proofs.Answering.{best_from, least_list, listed_from, shows_exactly, shows_none, some_counted}
 use Rattle.sequencing.proofs.Standing.{sequence_complete, sequence_within}
-use Rattle.worked_bridges.specs.Answers.{Finds, FindsNone, HasLeast, HasNoLeast}
+use Rattle.worked_bridges.specs.Answers.{Finds, FindsNone, FindsLeast, FindsNoLeast}
 use Rattle.worked_bridges.proofs.Slots.{is_placement, placement_is}
 use Rattle.worked_bridges.proofs.Tests.{all_below, each_below}
 use Rattle.worked_bridges.proofs.Windows.{are_open, open_windows}
@@ -91,9 +91,9 @@ module _ (f : Cost) (t : List ℕ) where
 
   module _ (sound : is_round ≡ true) (capped : Capped f) where
     -- the least is a bound at which a list passes that attains it, where the bound below has a block
-    pub has_least : Valley f → (n : ℕ) (ws : List Window) (l : List ℕ) (below : Option Block) → n < top → is_sequence n ws l ≡ true →
-        (k c : ℕ) → is_attained l n k c ≡ true → IsBelow f t n below → HasLeast f t n ws l below
-    has_least valley n ws l below small test k c attained blocked =
+    pub finds_least : Valley f → (n : ℕ) (ws : List Window) (l : List ℕ) (below : Option Block) → n < top → is_sequence n ws l ≡ true →
+        (k c : ℕ) → is_attained l n k c ≡ true → IsBelow f t n below → FindsLeast f t n ws l below
+    finds_least valley n ws l below small test k c attained blocked =
         let made = sequence_is n ws l test in
         let p = and_parts _ _ attained in
         let q = and_parts _ _ p.0 in
@@ -107,8 +107,8 @@ module _ (f : Cost) (t : List ℕ) where
         (a, refl, λ m. best_from t m.windows ws m.ready m.ready m.list l (as_many n ws l made) made.long refl f a capped some refl refl shown)
 
     -- there is none where the bound one below the forbidden cost has a block
-    pub has_no_least : (block : Block) → IsBlock f t (top - 1) block → HasNoLeast f t block
-    has_no_least block blocked = (
+    pub finds_no_least : (block : Block) → IsBlock f t (top - 1) block → FindsNoLeast f t block
+    finds_no_least block blocked = (
       best_with sound (NoLeast block) tt,
       refl,
       λ m. record {

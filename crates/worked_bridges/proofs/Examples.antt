@@ -11,7 +11,7 @@ use Rattle.penalty.specs.Maps.{map_capped, map_valley, relax_map, stop_capped, s
 use Rattle.penalty.specs.TwoSided.{largest, root, two_sided}
 use Rattle.penalty.specs.TwoSidedLaws.{two_sided_capped, two_sided_valley}
 use Rattle.worked_bridges.specs.Bridges.{Plain, TwoSided, UnderLayers, WorkedBridges, crowd, in_slot_two, in_turn, moment, one, reading, row, three, twice, two, uneven}
-use Rattle.worked_bridges.proofs.Answering.{finds, finds_none, has_least, has_no_least}
+use Rattle.worked_bridges.proofs.Answering.{finds, finds_none, finds_least, finds_no_least}
 use Rattle.worked_bridges.proofs.Slots.{crowded_is}
 use Rattle.worked_bridges.proofs.Windows.{first_blocked, open_windows}
 
@@ -26,13 +26,13 @@ absolute_valley = bottom_valley size absolute_capped size_valley
 -- the facts of the bridges under the absolute deviation alone
 plain : Plain
 plain = record {
-  one = has_least absolute one refl absolute_capped absolute_valley 0 (reading 0 1 1 1 1 ∷ []) (0 ∷ []) None (omega arith) refl 0 0 refl refl;
+  one_best = finds_least absolute one refl absolute_capped absolute_valley 0 (reading 0 1 1 1 1 ∷ []) (0 ∷ []) None (omega arith) refl 0 0 refl refl;
   two_within = finds absolute two absolute_valley 1 in_turn (0 ∷ 1 ∷ []) refl;
   two_turned = λ placed. ⊎_elim (λ less. omega arith) (λ tie. omega (arith, tie.1)) (placed.soonest 1 0 (omega arith) (omega arith) (omega arith) (omega arith));
   two_over = finds_none absolute two 0 (moment 1 0) (first_blocked absolute two 0 1 0 refl);
-  two = has_least absolute two refl absolute_capped absolute_valley 1 in_turn (0 ∷ 1 ∷ []) (Some (moment 1 0)) (omega arith) refl 1 0 refl
+  two_best = finds_least absolute two refl absolute_capped absolute_valley 1 in_turn (0 ∷ 1 ∷ []) (Some (moment 1 0)) (omega arith) refl 1 0 refl
       (omega arith, first_blocked absolute two 0 1 0 refl);
-  twice = has_least absolute twice refl absolute_capped absolute_valley 1 (reading 0 1 1 1 1 ∷ reading 0 2 3 3 3 ∷ reading 1 1 2 2 2 ∷ []) (0 ∷ 1 ∷ 0 ∷ [])
+  twice_best = finds_least absolute twice refl absolute_capped absolute_valley 1 (reading 0 1 1 1 1 ∷ reading 0 2 3 3 3 ∷ reading 1 1 2 2 2 ∷ []) (0 ∷ 1 ∷ 0 ∷ [])
       (Some (moment 1 0)) (omega arith) refl 1 0 refl
       (omega arith, first_blocked absolute twice 0 1 0 refl);
   three_windows = open_windows absolute three 1 in_slot_two refl;
@@ -41,10 +41,10 @@ plain = record {
   two_three = crowded_is in_slot_two 2 3 3 refl;
   one_three = λ number crowded. omega (arith, crowded.over, crowded.counted);
   three_none = crowd_rules_out in_slot_two 2 2 3 (crowded_is in_slot_two 2 2 3 refl);
-  three = has_least absolute three refl absolute_capped absolute_valley 2 (reading 0 1 1 3 1 ∷ reading 1 1 1 3 2 ∷ reading 2 1 1 3 3 ∷ []) (0 ∷ 1 ∷ 2 ∷ [])
+  three_best = finds_least absolute three refl absolute_capped absolute_valley 2 (reading 0 1 1 3 1 ∷ reading 1 1 1 3 2 ∷ reading 2 1 1 3 3 ∷ []) (0 ∷ 1 ∷ 2 ∷ [])
       (Some (crowd 2 2 3)) (omega arith) refl 1 0 refl
       (omega arith, (in_slot_two, open_windows absolute three 1 in_slot_two refl, crowded_is in_slot_two 2 2 3 refl));
-  uneven = has_least absolute uneven refl absolute_capped absolute_valley 2
+  uneven_best = finds_least absolute uneven refl absolute_capped absolute_valley 2
       (reading 0 1 1 1 1 ∷ reading 0 2 3 3 3 ∷ reading 0 3 5 5 5 ∷ reading 1 1 2 2 2 ∷ reading 1 2 4 4 4 ∷ []) (0 ∷ 1 ∷ 0 ∷ 1 ∷ 0 ∷ [])
       (Some (moment 1 0)) (omega arith) refl 1 0 refl
       (omega arith, first_blocked absolute uneven 1 1 0 refl);
@@ -58,14 +58,14 @@ in_slot s = reading 0 1 s s 0 ∷ reading 1 1 s s 0 ∷ []
 under_layers : UnderLayers
 under_layers =
     record {
-      weights = has_least (weighted (row 1 (3 ∷ 1 ∷ [])) absolute) two refl (map_capped (weight_maps (row 1 (3 ∷ 1 ∷ []))) absolute_capped)
+      weights = finds_least (weighted (row 1 (3 ∷ 1 ∷ [])) absolute) two refl (map_capped (weight_maps (row 1 (3 ∷ 1 ∷ []))) absolute_capped)
           (map_valley (weight_maps (row 1 (3 ∷ 1 ∷ []))) absolute_valley) 3 in_turn (0 ∷ 1 ∷ []) (Some (moment 1 0)) (omega arith) refl 1 0 refl
           (omega arith, first_blocked (weighted (row 1 (3 ∷ 1 ∷ [])) absolute) two 2 1 0 refl);
-      band = has_least (banded 1 absolute) two refl (map_capped (λ _. relax_map 1) absolute_capped) (map_valley (λ _. relax_map 1) absolute_valley)
+      band = finds_least (banded 1 absolute) two refl (map_capped (λ _. relax_map 1) absolute_capped) (map_valley (λ _. relax_map 1) absolute_valley)
           0 in_turn (0 ∷ 1 ∷ []) None (omega arith) refl 0 0 refl refl;
-      stop_none = has_no_least (stopped 0 absolute) two refl (stop_capped 0 absolute_capped) (crowd 2 2 2)
+      stop_none = finds_no_least (stopped 0 absolute) two refl (stop_capped 0 absolute_capped) (crowd 2 2 2)
           (in_slot 2, open_windows (stopped 0 absolute) two 1_099_511_627_774 (in_slot 2) refl, crowded_is (in_slot 2) 2 2 2 refl);
-      stop_one = has_least (stopped 1 absolute) two refl (stop_capped 1 absolute_capped) (stop_valley 1 absolute_capped absolute_valley)
+      stop_one = finds_least (stopped 1 absolute) two refl (stop_capped 1 absolute_capped) (stop_valley 1 absolute_capped absolute_valley)
           1 in_turn (0 ∷ 1 ∷ []) (Some (moment 1 0)) (omega arith) refl 1 0 refl
           (omega arith, first_blocked (stopped 1 absolute) two 0 1 0 refl);
     }
@@ -73,7 +73,7 @@ under_layers =
 -- those of (1,1) under the two-sided bottom
 two_sides : TwoSided
 unfolding root largest
-two_sides = has_least two_sided two refl two_sided_capped two_sided_valley 160 in_turn (0 ∷ 1 ∷ []) (Some (crowd 1 1 2)) (omega arith) refl 1 1 refl
+two_sides = finds_least two_sided two refl two_sided_capped two_sided_valley 160 in_turn (0 ∷ 1 ∷ []) (Some (crowd 1 1 2)) (omega arith) refl 1 1 refl
     (omega arith, (in_slot 1, open_windows two_sided two 159 (in_slot 1) refl, crowded_is (in_slot 1) 1 1 2 refl))
 
 -- all of them

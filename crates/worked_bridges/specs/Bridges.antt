@@ -8,7 +8,7 @@ use Rattle.penalty.specs.TwoSided.{two_sided}
 use Rattle.sequencing.specs.declared.answer.Block.{Block}
 use Rattle.sequencing.specs.declared.answer.Block.TheVariants.{Blocked, Crowded}
 use Rattle.windows.specs.Filling.{AreOpen}
-use Rattle.worked_bridges.specs.Answers.{Finds, HasLeast, HasNoLeast, FindsNone}
+use Rattle.worked_bridges.specs.Answers.{Finds, FindsLeast, FindsNoLeast, FindsNone}
 
 -- a row of 64 numbers that begins with these, and goes on with n
 abbrev pub row : ℕ → List ℕ → List ℕ
@@ -57,7 +57,7 @@ in_slot_two = reading 0 1 2 2 0 ∷ reading 1 1 2 2 0 ∷ reading 2 1 2 2 0 ∷ 
 -- bridges under the absolute deviation alone
 pub record Plain : Type 0 where
   -- (1): the least is 0, the list 0, and nothing below it
-  pub one : HasLeast absolute one 0 (reading 0 1 1 1 1 ∷ []) (0 ∷ []) None
+  pub one_best : FindsLeast absolute one 0 (reading 0 1 1 1 1 ∷ []) (0 ∷ []) None
   -- (1,1): at 1 both windows are 1 to 2, and the list is 0 1
   pub two_within : Finds absolute two 1 in_turn (0 ∷ 1 ∷ [])
   -- the other order is no placement, since channel 0 is due first
@@ -65,9 +65,9 @@ pub record Plain : Type 0 where
   -- at 0 the moment after slot 1 is blocked at channel 0
   pub two_over : FindsNone absolute two 0 (moment 1 0)
   -- so the least is 1
-  pub two : HasLeast absolute two 1 in_turn (0 ∷ 1 ∷ []) (Some (moment 1 0))
+  pub two_best : FindsLeast absolute two 1 in_turn (0 ∷ 1 ∷ []) (Some (moment 1 0))
   -- (2,1): the least is 1, and the list 0 1 0
-  pub twice : HasLeast absolute twice 1 (reading 0 1 1 1 1 ∷ reading 0 2 3 3 3 ∷ reading 1 1 2 2 2 ∷ []) (0 ∷ 1 ∷ 0 ∷ []) (Some (moment 1 0))
+  pub twice_best : FindsLeast absolute twice 1 (reading 0 1 1 1 1 ∷ reading 0 2 3 3 3 ∷ reading 1 1 2 2 2 ∷ []) (0 ∷ 1 ∷ 0 ∷ []) (Some (moment 1 0))
   -- (1,1,1): at 1 the three windows are 2 to 2
   pub three_windows : AreOpen absolute three 1 in_slot_two
   -- the slots 2 to 2, 1 to 2 and 2 to 3 are crowded, with three windows inside each; 1 to 3 are not
@@ -78,26 +78,26 @@ pub record Plain : Type 0 where
   -- so these windows have no assignment
   pub three_none : (slot : ℕ → ℕ) → Assignment in_slot_two slot → ⊥
   -- the least is 2, and the list 0 1 2
-  pub three : HasLeast absolute three 2 (reading 0 1 1 3 1 ∷ reading 1 1 1 3 2 ∷ reading 2 1 1 3 3 ∷ []) (0 ∷ 1 ∷ 2 ∷ []) (Some (crowd 2 2 3))
+  pub three_best : FindsLeast absolute three 2 (reading 0 1 1 3 1 ∷ reading 1 1 1 3 2 ∷ reading 2 1 1 3 3 ∷ []) (0 ∷ 1 ∷ 2 ∷ []) (Some (crowd 2 2 3))
   -- (3,2): the least is 2, and the list 0 1 0 1 0
-  pub uneven : HasLeast absolute uneven 2
+  pub uneven_best : FindsLeast absolute uneven 2
       (reading 0 1 1 1 1 ∷ reading 0 2 3 3 3 ∷ reading 0 3 5 5 5 ∷ reading 1 1 2 2 2 ∷ reading 1 2 4 4 4 ∷ []) (0 ∷ 1 ∷ 0 ∷ 1 ∷ 0 ∷ [])
       (Some (moment 1 0))
 
 -- the bridge (1,1) under a layer over the absolute deviation
 pub record UnderLayers : Type 0 where
   -- weights 3 and 1: the least is 3
-  pub weights : HasLeast (weighted (row 1 (3 ∷ 1 ∷ [])) absolute) two 3 in_turn (0 ∷ 1 ∷ []) (Some (moment 1 0))
+  pub weights : FindsLeast (weighted (row 1 (3 ∷ 1 ∷ [])) absolute) two 3 in_turn (0 ∷ 1 ∷ []) (Some (moment 1 0))
   -- tolerance 1: the least is 0
-  pub band : HasLeast (banded 1 absolute) two 0 in_turn (0 ∷ 1 ∷ []) None
+  pub band : FindsLeast (banded 1 absolute) two 0 in_turn (0 ∷ 1 ∷ []) None
   -- limit 0: there is none, since both readings have to stand in slot 2
-  pub stop_none : HasNoLeast (stopped 0 absolute) two (crowd 2 2 2)
+  pub stop_none : FindsNoLeast (stopped 0 absolute) two (crowd 2 2 2)
   -- limit 1: the least is 1
-  pub stop_one : HasLeast (stopped 1 absolute) two 1 in_turn (0 ∷ 1 ∷ []) (Some (moment 1 0))
+  pub stop_one : FindsLeast (stopped 1 absolute) two 1 in_turn (0 ∷ 1 ∷ []) (Some (moment 1 0))
 
 -- the bridge (1,1) under the two-sided bottom: the least is 160 and the list 0 1; below it both readings have to stand in slot 1
 abbrev pub TwoSided : Type 0
-TwoSided = HasLeast two_sided two 160 in_turn (0 ∷ 1 ∷ []) (Some (crowd 1 1 2))
+TwoSided = FindsLeast two_sided two 160 in_turn (0 ∷ 1 ∷ []) (Some (crowd 1 1 2))
 
 -- all worked bridges
 pub record WorkedBridges : Type 0 where
