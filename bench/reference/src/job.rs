@@ -14,9 +14,21 @@ pub const JOB_BYTES: usize = 4_096;
 #[derive(Debug)]
 pub enum Answer {
     Done,
-    Within { bound: u64, largest: u64, rows: Vec<Window> },
-    Over { bound: u64, block: Block },
-    Least { least: u64, figure: u64, rows: Vec<Window>, below: Option<Block> },
+    Within {
+        bound: u64,
+        largest: u64,
+        rows: Vec<Window>,
+    },
+    Over {
+        bound: u64,
+        block: Block,
+    },
+    Least {
+        least: u64,
+        figure: u64,
+        rows: Vec<Window>,
+        below: Option<Block>,
+    },
     NoLeast(Block),
 }
 
@@ -30,7 +42,11 @@ pub struct Job<B> {
 impl<B: Penalty + Copy> Job<B> {
     /// No channel, and the layers as they are until they are set.
     pub fn new(bottom: B) -> Job<B> {
-        Job { bottom, layers: Layers::new(), readings: Readings::new() }
+        Job {
+            bottom,
+            layers: Layers::new(),
+            readings: Readings::new(),
+        }
     }
 
     /// Does what a record asks for.
@@ -63,7 +79,11 @@ impl<B: Penalty + Copy> Job<B> {
             return Err(Fault::BoundAboveLimit);
         }
         Ok(match sequencer.list(bound) {
-            Ok(largest) => Answer::Within { bound, largest, rows: sequencer.rows() },
+            Ok(largest) => Answer::Within {
+                bound,
+                largest,
+                rows: sequencer.rows(),
+            },
             Err(block) => Answer::Over { bound, block },
         })
     }
@@ -73,7 +93,12 @@ impl<B: Penalty + Copy> Job<B> {
         Ok(match sequencer.best() {
             Ok((least, below)) => {
                 let figure = 100 * least / u64::from(self.readings.slots());
-                Answer::Least { least, figure, rows: sequencer.rows(), below }
+                Answer::Least {
+                    least,
+                    figure,
+                    rows: sequencer.rows(),
+                    below,
+                }
             }
             Err(block) => Answer::NoLeast(block),
         })
@@ -84,11 +109,18 @@ impl<B: Penalty + Copy> Job<B> {
         if self.readings.slots() == 0 {
             return Err(Fault::NoChannel);
         }
-        Ok(Sequencer::new(self.layers.over(self.bottom), &self.readings))
+        Ok(Sequencer::new(
+            self.layers.over(self.bottom),
+            &self.readings,
+        ))
     }
 }
 
 /// A tolerance or a limit.
 fn threshold(value: u32) -> Result<u32, Fault> {
-    if value > LARGEST_THRESHOLD { Err(Fault::ThresholdAboveLimit) } else { Ok(value) }
+    if value > LARGEST_THRESHOLD {
+        Err(Fault::ThresholdAboveLimit)
+    } else {
+        Ok(value)
+    }
 }

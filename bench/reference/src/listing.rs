@@ -11,7 +11,11 @@ use crate::sequencing::Block;
 use crate::windows::Window;
 
 /// Writes the listing of a job file over a bottom.
-pub fn print_job<B: Penalty + Copy, W: Write>(bottom: B, file: &[u8], out: &mut W) -> io::Result<()> {
+pub fn print_job<B: Penalty + Copy, W: Write>(
+    bottom: B,
+    file: &[u8],
+    out: &mut W,
+) -> io::Result<()> {
     if file.len() > JOB_BYTES {
         return print_fault(Fault::TooLong, 0, out);
     }
@@ -38,12 +42,21 @@ fn print_fault<W: Write>(fault: Fault, offset: usize, out: &mut W) -> io::Result
 fn print_answer<W: Write>(answer: &Answer, out: &mut W) -> io::Result<()> {
     match answer {
         Answer::Done => Ok(()),
-        Answer::Within { bound, largest, rows } => {
+        Answer::Within {
+            bound,
+            largest,
+            rows,
+        } => {
             writeln!(out, "WITHIN {bound} LARGEST {largest}")?;
             print_rows(rows, out)
         }
         Answer::Over { bound, block } => writeln!(out, "OVER {bound}\n{block}"),
-        Answer::Least { least, figure, rows, below } => {
+        Answer::Least {
+            least,
+            figure,
+            rows,
+            below,
+        } => {
             writeln!(out, "LEAST {least} FIGURE {figure}")?;
             print_rows(rows, out)?;
             match below {
@@ -56,7 +69,14 @@ fn print_answer<W: Write>(answer: &Answer, out: &mut W) -> io::Result<()> {
 }
 
 fn print_rows<W: Write>(rows: &[Window], out: &mut W) -> io::Result<()> {
-    for Window { channel, reading, earliest, latest, slot } in rows {
+    for Window {
+        channel,
+        reading,
+        earliest,
+        latest,
+        slot,
+    } in rows
+    {
         writeln!(out, "{channel} {reading} {earliest} {latest} {slot}")?;
     }
     Ok(())
@@ -66,8 +86,14 @@ impl fmt::Display for Block {
     fn fmt(&self, f: &mut fmt::Formatter<'_>) -> fmt::Result {
         match self {
             Block::Blocked(moment) => write!(f, "MOMENT {} {}", moment.slot, moment.channel),
-            Block::Shut(w) => write!(f, "SHUT {} {} {} {}", w.channel, w.reading, w.earliest, w.latest),
-            Block::Crowded(crowd) => write!(f, "CROWD {} {} {}", crowd.first, crowd.last, crowd.number),
+            Block::Shut(w) => write!(
+                f,
+                "SHUT {} {} {} {}",
+                w.channel, w.reading, w.earliest, w.latest
+            ),
+            Block::Crowded(crowd) => {
+                write!(f, "CROWD {} {} {}", crowd.first, crowd.last, crowd.number)
+            }
         }
     }
 }

@@ -14,8 +14,8 @@ pub struct Crowd {
     pub number: usize,
 }
 
-/// A round while its slots are filled. Of each channel at most one reading is ready, its next one: neither end of its window is after
-/// that of a later reading of the channel.
+/// A round while its slots are filled. Of each channel at most one reading is ready, its next one:
+/// neither end of its window is after that of a later reading of the channel.
 struct Round<'a> {
     windows: &'a mut [Window],
     /// The place of each channel's next reading, where it is not ready yet.
@@ -24,8 +24,8 @@ struct Round<'a> {
     ready: BinaryHeap<Reverse<(u16, u16)>>,
 }
 
-/// Gives every reading a slot of its window, or shows slots that are too crowded for that. The windows are open, and stand by channel
-/// and then reading.
+/// Gives every reading a slot of its window, or shows slots that are too crowded for that. The
+/// windows are open, and stand by channel and then reading.
 pub fn place(windows: &mut [Window]) -> Result<(), Crowd> {
     let mut round = Round::new(windows);
     for slot in 1..=round.windows.len() as u16 {
@@ -41,7 +41,11 @@ impl<'a> Round<'a> {
             window.slot = 0;
             waiting[usize::from(window.channel)].get_or_insert(place);
         }
-        Round { windows, waiting, ready: BinaryHeap::with_capacity(CHANNELS) }
+        Round {
+            windows,
+            waiting,
+            ready: BinaryHeap::with_capacity(CHANNELS),
+        }
     }
 
     /// Gives a slot to the reading that is due first.
@@ -57,7 +61,9 @@ impl<'a> Round<'a> {
         window.slot = slot;
         let channel = window.channel;
         let next = self.windows.get(usize::from(place) + 1);
-        self.waiting[usize::from(channel)] = next.filter(|next| next.channel == channel).map(|_| place + 1);
+        self.waiting[usize::from(channel)] = next
+            .filter(|next| next.channel == channel)
+            .map(|_| place + 1);
         Ok(())
     }
 
@@ -76,13 +82,20 @@ impl<'a> Round<'a> {
 
     /// The last slot up to `latest` whose reading could also stand after `latest`, 0 where there is none.
     fn last_movable(&self, latest: u16) -> u16 {
-        let movable = self.windows.iter().filter(|window| window.latest > latest && window.slot <= latest);
+        let movable = self
+            .windows
+            .iter()
+            .filter(|window| window.latest > latest && window.slot <= latest);
         movable.map(|window| window.slot).max().unwrap_or(0)
     }
 
     /// The slots `first` to `last`, with the number of windows that lie wholly inside.
     fn crowd(&self, first: u16, last: u16) -> Crowd {
         let inside = |window: &&Window| first <= window.earliest && window.latest <= last;
-        Crowd { first, last, number: self.windows.iter().filter(inside).count() }
+        Crowd {
+            first,
+            last,
+            number: self.windows.iter().filter(inside).count(),
+        }
     }
 }

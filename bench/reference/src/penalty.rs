@@ -37,7 +37,8 @@ impl Question {
 
     /// How far the count is ahead of its even share, times the slots.
     pub fn ahead(&self) -> i64 {
-        i64::from(self.slots) * i64::from(self.count) - i64::from(self.slot) * i64::from(self.readings)
+        i64::from(self.slots) * i64::from(self.count)
+            - i64::from(self.slot) * i64::from(self.readings)
     }
 }
 
@@ -124,8 +125,17 @@ impl Layers {
 
     /// The pile stop over band over weights over a bottom.
     pub fn over<B: Penalty>(&self, bottom: B) -> impl Penalty {
-        let below = Weights { below: bottom, by_channel: self.weights };
-        let below = Band { below, tolerance: self.tolerance };
-        Stop { below, limit: self.limit }
+        let below = Weights {
+            below: bottom,
+            by_channel: self.weights,
+        };
+        let below = Band {
+            below,
+            tolerance: self.tolerance,
+        };
+        Stop {
+            below,
+            limit: self.limit,
+        }
     }
 }

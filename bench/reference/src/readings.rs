@@ -13,12 +13,18 @@ pub struct Readings {
 impl Readings {
     /// A table without a channel.
     pub fn new() -> Readings {
-        Readings { by_channel: [0; CHANNELS], slots: 0 }
+        Readings {
+            by_channel: [0; CHANNELS],
+            slots: 0,
+        }
     }
 
     /// Adds a channel that is not there.
     pub fn add(&mut self, channel: u8, readings: u16) -> Result<(), Fault> {
-        let entry = self.by_channel.get_mut(usize::from(channel)).ok_or(Fault::ChannelAboveLimit)?;
+        let entry = self
+            .by_channel
+            .get_mut(usize::from(channel))
+            .ok_or(Fault::ChannelAboveLimit)?;
         if readings == 0 || readings > LIMIT {
             return Err(Fault::ReadingsOutOfRange);
         }
@@ -40,6 +46,8 @@ impl Readings {
 
     /// The channels with their readings, in the order of their numbers.
     pub fn channels(&self) -> impl Iterator<Item = (u8, u16)> + '_ {
-        (0..).zip(self.by_channel.iter().copied()).filter(|&(_, readings)| readings > 0)
+        (0..)
+            .zip(self.by_channel.iter().copied())
+            .filter(|&(_, readings)| readings > 0)
     }
 }

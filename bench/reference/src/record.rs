@@ -18,12 +18,12 @@ impl Record {
     pub fn split_first(kind: u8, body: &[u8]) -> Result<(Record, &[u8]), Fault> {
         match kind {
             0x43 => {
-                let (&[channel, high, low], rest) = split(body)?;
-                Ok((Record::Add { channel, readings: u16::from_be_bytes([high, low]) }, rest))
+                let (channel, readings, rest) = split_channel(body)?;
+                Ok((Record::Add { channel, readings }, rest))
             }
             0x57 => {
-                let (&[channel, high, low], rest) = split(body)?;
-                Ok((Record::Weight { channel, weight: u16::from_be_bytes([high, low]) }, rest))
+                let (channel, weight, rest) = split_channel(body)?;
+                Ok((Record::Weight { channel, weight }, rest))
             }
             0x54 => {
                 let (&bytes, rest) = split(body)?;
@@ -35,12 +35,23 @@ impl Record {
             }
             0x4C => {
                 let (&bytes, rest) = split(body)?;
-                Ok((Record::List { bound: u64::from_be_bytes(bytes) }, rest))
+                Ok((
+                    Record::List {
+                        bound: u64::from_be_bytes(bytes),
+                    },
+                    rest,
+                ))
             }
             0x42 => Ok((Record::Best, body)),
             _ => Err(Fault::UnknownKind),
         }
     }
+}
+
+/// A channel and a number of two bytes that a body begins with, and the bytes after them.
+fn split_channel(body: &[u8]) -> Result<(u8, u16, &[u8]), Fault> {
+    let (&[channel, high, low], rest) = split(body)?;
+    Ok((channel, u16::from_be_bytes([high, low]), rest))
 }
 
 /// The first bytes of a body, and those after them.

@@ -25,7 +25,12 @@ pub struct Sequencer<'a, P> {
 impl<'a, P: Penalty> Sequencer<'a, P> {
     pub fn new(penalty: P, readings: &'a Readings) -> Sequencer<'a, P> {
         let slots = usize::from(readings.slots());
-        Sequencer { penalty, readings, windows: Vec::with_capacity(slots), list: vec![0; slots] }
+        Sequencer {
+            penalty,
+            readings,
+            windows: Vec::with_capacity(slots),
+            list: vec![0; slots],
+        }
     }
 
     /// Makes the list at a bound, and answers its largest cost; or why there is none.
@@ -34,8 +39,9 @@ impl<'a, P: Penalty> Sequencer<'a, P> {
         Ok(self.largest_cost())
     }
 
-    /// Makes the list at the least bound that has one, and answers the bound and why no list is within the one below it, nothing where
-    /// it is 0; or why there is no list below TOP. The search is by halves.
+    /// Makes the list at the least bound that has one, and answers the bound and why no list is
+    /// within the one below it, nothing where it is 0; or why there is no list below TOP. The
+    /// search is by halves.
     pub fn best(&mut self) -> Result<(u64, Option<Block>), Block> {
         let mut high = self.list(TOP - 1)?;
         // No list is within a bound below `low`; `high` is the largest cost of a list.
@@ -66,7 +72,11 @@ impl<'a, P: Penalty> Sequencer<'a, P> {
     /// The list of the rules at a bound: the windows, a slot for each, and the channels by slot.
     fn sequence(&mut self, bound: u64) -> Result<(), Block> {
         fill(&self.penalty, self.readings, bound, &mut self.windows).map_err(Block::Blocked)?;
-        if let Some(&shut) = self.windows.iter().find(|window| window.latest < window.earliest) {
+        if let Some(&shut) = self
+            .windows
+            .iter()
+            .find(|window| window.latest < window.earliest)
+        {
             return Err(Block::Shut(shut));
         }
         place(&mut self.windows).map_err(Block::Crowded)?;
@@ -92,7 +102,13 @@ impl<'a, P: Penalty> Sequencer<'a, P> {
         let slots = self.readings.slots();
         let cost = |(channel, readings)| {
             let count = counts[usize::from(channel)];
-            self.penalty.cost(Question { slots, channel, readings, count, slot })
+            self.penalty.cost(Question {
+                slots,
+                channel,
+                readings,
+                count,
+                slot,
+            })
         };
         self.readings.channels().map(cost).max().unwrap_or(0)
     }

@@ -26,6 +26,10 @@ impl Penalty for TwoSided {
         }
         let ahead = question.ahead();
         let step = (8 * ahead.unsigned_abs() / u64::from(question.slots)).min(255);
-        if ahead < 0 { 40 * step } else { u64::from(self.roots[step as usize]) }
+        if ahead < 0 {
+            40 * step
+        } else {
+            u64::from(self.roots[step as usize])
+        }
     }
 }

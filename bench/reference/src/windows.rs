@@ -29,13 +29,25 @@ struct Counts<'a, P> {
     readings: u16,
 }
 
-/// The windows of all readings at a bound, by channel and then reading, put into `windows`; or the first blocked moment.
-pub fn fill<P: Penalty>(penalty: &P, readings: &Readings, bound: u64, windows: &mut Vec<Window>) -> Result<(), Moment> {
+/// The windows of all readings at a bound, by channel and then reading, put into `windows`; or the
+/// first blocked moment.
+pub fn fill<P: Penalty>(
+    penalty: &P,
+    readings: &Readings,
+    bound: u64,
+    windows: &mut Vec<Window>,
+) -> Result<(), Moment> {
     windows.clear();
     let slots = readings.slots();
     let mut blocked: Option<Moment> = None;
     for (channel, readings) in readings.channels() {
-        let counts = Counts { penalty, bound, slots, channel, readings };
+        let counts = Counts {
+            penalty,
+            bound,
+            slots,
+            channel,
+            readings,
+        };
         match counts.limits() {
             Ok((fewest, most)) => windows.extend(counts.windows(&fewest, &most)),
             Err(slot) => {
@@ -50,12 +62,18 @@ pub fn fill<P: Penalty>(penalty: &P, readings: &Readings, bound: u64, windows: &
 impl<P: Penalty> Counts<'_, P> {
     /// Whether a count is allowed after a slot.
     fn allows(&self, slot: u16, count: u16) -> bool {
-        let question = Question { slots: self.slots, channel: self.channel, readings: self.readings, count, slot };
+        let question = Question {
+            slots: self.slots,
+            channel: self.channel,
+            readings: self.readings,
+            count,
+            slot,
+        };
         self.penalty.cost(question) <= self.bound
     }
 
-    /// For each slot how many readings are needed by it and how many may stand by it, or the first slot after which the channel is
-    /// blocked.
+    /// For each slot how many readings are needed by it and how many may stand by it, or the first
+    /// slot after which the channel is blocked.
     fn limits(&self) -> Result<(Vec<u16>, Vec<u16>), u16> {
         let fewest = self.fewest()?;
         Ok((fewest, self.most()))
@@ -80,13 +98,17 @@ impl<P: Penalty> Counts<'_, P> {
         Ok(fewest)
     }
 
-    /// How many readings may stand by each slot, where none is blocked: going down, the count after is asked about first.
+    /// How many readings may stand by each slot, where none is blocked: going down, the count after
+    /// is asked about first.
     fn most(&self) -> Vec<u16> {
         let mut most = vec![0; usize::from(self.slots) + 1];
         let mut count = self.readings;
         for slot in (0..=self.slots).rev() {
             if !self.allows(slot, count) {
-                count = (0..count).rev().find(|&below| self.allows(slot, below)).unwrap_or(count);
+                count = (0..count)
+                    .rev()
+                    .find(|&below| self.allows(slot, below))
+                    .unwrap_or(count);
             }
             most[usize::from(slot)] = count;
         }

@@ -17,24 +17,20 @@ impl<'a, B: Penalty + Copy> Listing<'a, B> {
     pub fn new(bottom: B, file: &'a [u8]) -> Listing<'a, B>
         ensures { (lines : List LineOf) → HasLeft B.cost result lines → IsListing (B.cost bottom) file.now lines }
     {
-        let mut lines = [Line::NoLeast; ANSWER_LINES];
+        let mut listing = Listing {
+            job: None,
+            lines: [Line::NoLeast; ANSWER_LINES],
+            count: 0,
+            given: 0,
+        };
         match Job::new(bottom, file) {
-            Ok(job) => Listing {
-                job: Some(job),
-                lines,
-                count: 0,
-                given: 0,
-            },
+            Ok(job) => listing.job = Some(job),
             Err(fault) => {
-                lines[0] = fault_line(fault);
-                Listing {
-                    job: None,
-                    lines,
-                    count: 1,
-                    given: 0,
-                }
+                listing.lines[0] = fault_line(fault);
+                listing.count = 1;
             }
         }
+        listing
     }
 
     /// The next line; nothing after the last.
