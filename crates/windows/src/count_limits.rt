@@ -1,5 +1,5 @@
 // How many readings of a channel are needed by each slot, and how many may stand by it.
-ghost use Rattle.std.specs.Prelude.{ℕ, ◌≤◌, IfErr, IfOk, OnOk};
+ghost use Rattle.std.specs.Prelude.{ℕ, ◌≤◌, IfErr, OnOk};
 ghost use Rattle.round.specs.Lists.{Channel, readings as d_of};
 ghost use Rattle.windows.specs.Allowed.{Blocked};
 ghost use Rattle.windows.specs.Extremes.{IsLeast};
@@ -20,35 +20,33 @@ pub(crate) struct CountLimits {
 }
 
 impl<'a, P: Penalty> Counts<'a, P> {
-    // Both of these for each slot, or the first slot after which the channel is blocked.
-    pub(crate) fn count_limits(&self) -> Result<CountLimits, u16>
+    // Puts both of these for each slot, or finds the first slot after which the channel is blocked.
+    // Into the same places for each channel: with new ones for each a small round took a fifth longer.
+    pub(crate) fn count_limits(&self, limits: &mut CountLimits) -> Result<(), u16>
         requires { Channel self.now.table.now.by_channel self.now.channel }
         ensures unblocked { OnOk result ((k : ℕ) →
             Blocked (P.cost self.now.penalty.now) self.now.table.now.by_channel self.now.bound k self.now.channel → ⊥) }
-        ensures limits { IfOk result (λ limits.
+        ensures limits { OnOk result (
             AreCountLimits (P.cost self.now.penalty.now) self.now.table.now.by_channel self.now.bound
-            self.now.channel limits.fewest limits.most) }
+            self.now.channel limits.new.fewest limits.new.most) }
         ensures blocked { IfErr result (IsLeast (λ k.
             Blocked (P.cost self.now.penalty.now) self.now.table.now.by_channel self.now.bound k self.now.channel)) }
     {
-        let fewest = self.fewest()?;
-        Ok(CountLimits {
-            fewest,
-            most: self.most(),
-        })
+        self.put_fewest(&mut limits.fewest)?;
+        self.put_most(&mut limits.most);
+        Ok(())
     }
 
-    // For each slot how many readings are needed by it, or the first slot after which the channel is blocked.
-    fn fewest(&self) -> Result<[u16; MOMENTS], u16>
+    // Puts for each slot how many readings are needed by it, or finds the first slot after which the channel is blocked.
+    fn put_fewest(&self, fewest: &mut [u16; MOMENTS]) -> Result<(), u16>
         requires { Channel self.now.table.now.by_channel self.now.channel }
         ensures unblocked { OnOk result ((k : ℕ) →
             Blocked (P.cost self.now.penalty.now) self.now.table.now.by_channel self.now.bound k self.now.channel → ⊥) }
-        ensures fewest { IfOk result (
-            AreFewest (P.cost self.now.penalty.now) self.now.table.now.by_channel self.now.bound self.now.channel) }
+        ensures fewest { OnOk result (
+            AreFewest (P.cost self.now.penalty.now) self.now.table.now.by_channel self.now.bound self.now.channel fewest.new) }
         ensures blocked { IfErr result (IsLeast (λ k.
             Blocked (P.cost self.now.penalty.now) self.now.table.now.by_channel self.now.bound k self.now.channel)) }
     {
-        let mut fewest = [0; MOMENTS];
         let mut count = 0;
         for slot in 0..=self.table.total() {
             let Some(next) = self.fewest_by(slot, count) else {
@@ -57,7 +55,7 @@ impl<'a, P: Penalty> Counts<'a, P> {
             fewest[usize::from(slot)] = next;
             count = next;
         }
-        Ok(fewest)
+        Ok(())
     }
 
     // How many readings are needed by a slot where `before` are needed before it, unless the channel is blocked after
@@ -78,20 +76,18 @@ impl<'a, P: Penalty> Counts<'a, P> {
         Some(before)
     }
 
-    // For each slot how many readings may stand by it, where the channel is blocked after none.
-    fn most(&self) -> [u16; MOMENTS]
+    // Puts for each slot how many readings may stand by it, where the channel is blocked after none.
+    fn put_most(&self, most: &mut [u16; MOMENTS])
         requires channel { Channel self.now.table.now.by_channel self.now.channel }
         requires unblocked { (k : ℕ) →
             Blocked (P.cost self.now.penalty.now) self.now.table.now.by_channel self.now.bound k self.now.channel → ⊥ }
-        ensures { AreMost (P.cost self.now.penalty.now) self.now.table.now.by_channel self.now.bound self.now.channel result }
+        ensures { AreMost (P.cost self.now.penalty.now) self.now.table.now.by_channel self.now.bound self.now.channel most.new }
     {
-        let mut most = [0; MOMENTS];
         let mut count = self.readings();
         for slot in (0..=self.table.total()).rev() {
             count = self.most_by(slot, count);
             most[usize::from(slot)] = count;
         }
-        most
     }
 
     // How many readings may stand by a slot where `after` may stand by the next.

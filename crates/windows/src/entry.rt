@@ -6,6 +6,7 @@ ghost use Rattle.windows.specs.CountLimits.{FirstOfBoth, FirstShutIn};
 
 use crate::allowed::Counts;
 use crate::answer::{Moment, Unfilled};
+use crate::count_limits::{CountLimits, MOMENTS};
 use limits::CHANNELS;
 use matching::Window;
 use penalty::Penalty;
@@ -49,6 +50,10 @@ fn fill_channels<P: Penalty>(
         × AreWindows (P.cost penalty.now) table.now.by_channel bound (take (sum table.now.by_channel) places.new)) }
     ensures blocked { IfErr result (λ m. FirstBlocked (P.cost penalty.now) table.now.by_channel bound m.slot m.channel) }
 {
+    let mut limits = CountLimits {
+        fewest: [0; MOMENTS],
+        most: [0; MOMENTS],
+    };
     let mut blocked = None;
     let mut start = 0;
     for channel in 0..CHANNELS as u8 {
@@ -60,8 +65,8 @@ fn fill_channels<P: Penalty>(
         };
         let readings = counts.readings();
         if readings > 0 {
-            match counts.count_limits() {
-                Ok(limits) => counts.fill_channel(&limits, places, start),
+            match counts.count_limits(&mut limits) {
+                Ok(()) => counts.fill_channel(&limits, places, start),
                 Err(slot) => blocked = Some(first_of_both(blocked, Moment { slot, channel })),
             }
         }

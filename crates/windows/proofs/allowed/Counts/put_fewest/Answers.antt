@@ -2,7 +2,7 @@
 use Rattle.std.proofs.Common.{⊎_elim, arith}
 use Rattle.std.proofs.lemmas.Bool.{cases_lt}
 use Rattle.windows.proofs.CountLimits.{fewest_step}
-use Rattle.windows.proofs.allowed.Counts.fewest.Goals as goal
+use Rattle.windows.proofs.allowed.Counts.put_fewest.Goals as goal
 
 pub loop-slot-preserved : goal.loop-slot-preserved
 loop-slot-preserved g c =

@@ -2,7 +2,7 @@
 use Rattle.std.proofs.Common.{◌≡◌, ◌+◌, ◌-◌, arith}
 use Rattle.windows.proofs.CountLimits.{most_step}
 use Rattle.windows.proofs.Ends.{some_allowed}
-use Rattle.windows.proofs.allowed.Counts.most.Goals as goal
+use Rattle.windows.proofs.allowed.Counts.put_most.Goals as goal
 
 pub most_by-count-requires-clause-some : goal.most_by-count-requires-clause-some
 most_by-count-requires-clause-some g c =
