@@ -51,3 +51,14 @@ fn channels_twice_and_above_the_limit(rt: HostRuntime) -> Result<(), Fail> {
     assert!(rt; text.as_slice() == wanted.as_bytes());
     Ok(())
 }
+
+#[test]
+fn readings_by_their_slots(rt: HostRuntime) -> Result<(), Fail> {
+    // readings 3, 1 and 1: the reading in slot 4 may stand earlier than that in slot 3; and channel 64 with 9 readings, at the end
+    let bytes = [0, 0, 0, 7, 0, 0, 3, 0, 0, 3, 1, 0, 1, 2, 0, 1, 64, 0, 9];
+    let text = answered(rt.alloc(), &AbsoluteDeviation, &bytes)?;
+    let wanted =
+        "LEAST 3 FIGURE 60\n0 1 1 2 1\n1 1 2 4 2\n0 2 3 3 3\n2 1 2 4 4\n0 3 4 5 5\nLEAST 3 FIGURE 60\nQUOTE 7 LEAST 3 TOTAL 5 CHANNELS 3 LAYERS 0 FIGURE 60\n";
+    assert!(rt; text.as_slice() == wanted.as_bytes());
+    Ok(())
+}

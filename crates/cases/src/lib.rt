@@ -42,7 +42,7 @@ impl<'a, C> Cases<'a, C> {
 impl<'a, C: Case<'a>> Iterator for Cases<'a, C> {
     type Item = C;
 
-    ghost next_gives = { λ s r t. MatchOption r (C.ends s.rest.now) (λ case. C.begins s.rest.now case t.rest.now) };
+    ghost next_gives = { λ s r t. MatchOption r (C.ends s.rest.now × (t.rest.now ≡ s.rest.now)) (λ case. C.begins s.rest.now case t.rest.now) };
 
     ghost remaining = { λ s. at_most (length s.rest.now) };
 

@@ -1,5 +1,5 @@
 // The lines of a job's listing, one after another.
-ghost use Rattle.std.specs.Prelude.{◌<◌, ◌≤◌, [], ◌∷◌, List, IfSome, MatchBool, MatchOption};
+ghost use Rattle.std.specs.Prelude.{◌≡◌, ◌<◌, ◌≤◌, [], ◌∷◌, List, IfNone, IfSome, MatchBool, MatchOption};
 ghost use Rattle.lines.specs.declared.line.Line.{Line as LineOf};
 ghost use Rattle.listing.specs.Listing.{HasLeft, IsListing};
 ghost use Rattle.listing.specs.Steps.{Refilled, rank};
@@ -33,12 +33,13 @@ impl<'a, B: Penalty + Copy> Listing<'a, B> {
         listing
     }
 
-    /// The next line; nothing after the last.
+    /// The next line; nothing after the last, however often it is asked.
     pub fn next(&mut self) -> Option<Line>
         ensures line { MatchOption result
             (HasLeft B.cost self.old [])
             (λ line. (lines : List LineOf) → HasLeft B.cost self.new lines → HasLeft B.cost self.old (line ∷ lines)) }
         ensures fewer { IfSome result (λ _. rank self.new < rank self.old) }
+        ensures ended { IfNone result (rank self.new ≡ 0) }
     {
         while self.given >= self.count {
             if !self.refill() {
@@ -53,7 +54,7 @@ impl<'a, B: Penalty + Copy> Listing<'a, B> {
     // Takes the next record, and puts the lines of its answer, or that of the fault; false where no more is taken.
     fn refill(&mut self) -> bool
         requires { self.old.count ≤ self.old.given }
-        ensures { MatchBool result (Refilled B.cost self.old self.new) (HasLeft B.cost self.old []) }
+        ensures { MatchBool result (Refilled B.cost self.old self.new) (HasLeft B.cost self.old [] × (rank self.new ≡ 0)) }
     {
         let Some(job) = &mut self.job else {
             return false;
