@@ -1,11 +1,10 @@
 -- Tests over the numbers below a number, that the checker computes.
-use Rattle.std.proofs.Common.{◌≡◌, ℕ, zero, suc, ◌<◌, Bool, true, false, ◌&&◌, ◌||◌, sym, subst, ⊎_elim, arith}
-use Rattle.std.proofs.lemmas.Bool.{and_parts, cases_eq, false≢true, or_cases, or_parts}
+use Rattle.std.proofs.Common.{◌≡◌, ℕ, zero, suc, ◌<◌, Bool, true, false, ◌||◌, sym, subst, ⊎_elim, arith}
+use Rattle.std.proofs.lemmas.Bool.{agree_below, agree_below_at, cases_eq, false≢true, or_cases, or_parts}
 
 -- whether p passes every number below n
 abbrev pub all_below : (ℕ → Bool) → ℕ → Bool
-all_below p zero = true
-all_below p (suc n) = p n && all_below p n
+all_below p n = agree_below p (λ _. true) n
 
 -- whether p passes some number below n
 abbrev pub any_below : (ℕ → Bool) → ℕ → Bool
@@ -15,10 +14,7 @@ any_below p (suc n) = p n || any_below p n
 module _ (p : ℕ → Bool) where
   -- what passes every number passes each
   pub each_below : (n : ℕ) → all_below p n ≡ true → (k : ℕ) → k < n → p k ≡ true
-  each_below zero t k h = absurd (omega (arith, h))
-  each_below (suc n) t k h =
-      let parts = and_parts (p n) (all_below p n) t in
-      ⊎_elim (λ same. subst (λ i. p i ≡ true) (sym same) parts.0) (λ other. each_below n parts.1 k (omega arith)) (cases_eq k n)
+  each_below n t k h = agree_below_at p (λ _. true) n k t h
 
   -- what passes some number has one that it passes
   pub one_below : (n : ℕ) → any_below p n ≡ true → (k : ℕ) × (k < n) × (p k ≡ true)
