@@ -156,6 +156,11 @@ def best(cost, table):
     return None, None, list_at(cost, TOP - 1, table)
 
 
+def figure(least, slots):
+    """The figure of a least: hundredths of the slots, rounded up."""
+    return -(-100 * least // slots)
+
+
 def least_of_all(cost, table):
     """The smallest largest cost of any complete list, by trying them all."""
     readings = [c for c in table for _ in range(table[c])]

@@ -13,7 +13,7 @@ from functools import lru_cache
 from pathlib import Path
 
 sys.path.insert(0, str(Path(__file__).parents[2] / "tools"))
-from rules import LARGEST, LIMIT, TOP, bottom_cost, largest_cost, least_of_all, list_at, relax, stop, weigh
+from rules import LARGEST, LIMIT, TOP, bottom_cost, figure, largest_cost, least_of_all, list_at, relax, stop, weigh
 from storing import store
 
 ADD, WEIGHT, TOLERANCE, LIMIT_OF_STOP, LIST, BEST = b"CWTELB"
@@ -102,7 +102,7 @@ class Held:
         if slots <= 6:
             assert least_of_all(cost, self.table) == least
         below = line(list_at(cost, least - 1, self.table, like)) if least else "NOTHING"
-        return [f"LEAST {least} FIGURE {100 * least // slots}", *rows(made), f"BELOW {below}"]
+        return [f"LEAST {least} FIGURE {figure(least, slots)}", *rows(made), f"BELOW {below}"]
 
 
 def refuse(*rules):
@@ -172,14 +172,14 @@ def bridge(*readings):
 
 # worked by hand, with the whole listing
 WORKED = [
-    (0, bridge(2, 1) + BEST_RECORD, ["LEAST 1 FIGURE 33", "0 1 1 1 1", "1 1 2 2 2", "0 2 3 3 3", "BELOW MOMENT 1 0"]),
+    (0, bridge(2, 1) + BEST_RECORD, ["LEAST 1 FIGURE 34", "0 1 1 1 1", "1 1 2 2 2", "0 2 3 3 3", "BELOW MOMENT 1 0"]),
     (0, bridge(1) + BEST_RECORD, ["LEAST 0 FIGURE 0", "0 1 1 1 1", "BELOW NOTHING"]),
     (0, bridge(1, 1) + ask(1) + ask(0), ["WITHIN 1 LARGEST 1", "0 1 1 2 1", "1 1 1 2 2", "OVER 0", "MOMENT 1 0"]),
     (0, bridge(1, 1, 1) + ask(1), ["OVER 1", "CROWD 2 3 3"]),
     (
         0,
         bridge(1, 1, 1) + BEST_RECORD,
-        ["LEAST 2 FIGURE 66", "0 1 1 3 1", "1 1 1 3 2", "2 1 1 3 3", "BELOW CROWD 2 3 3"],
+        ["LEAST 2 FIGURE 67", "0 1 1 3 1", "1 1 1 3 2", "2 1 1 3 3", "BELOW CROWD 2 3 3"],
     ),
     (
         0,

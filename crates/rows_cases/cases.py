@@ -14,7 +14,7 @@ from itertools import product
 from pathlib import Path
 
 sys.path.insert(0, str(Path(__file__).parents[2] / "tools"))
-from rules import LARGEST, LIMIT, TOP, best, bottom_cost, in_domain, least_of_all, stop
+from rules import LARGEST, LIMIT, TOP, best, bottom_cost, figure, in_domain, least_of_all, stop
 from storing import store
 
 LAYERS = 1
@@ -86,7 +86,7 @@ def quote_lines(row, least, serial, room):
     if room < 96:
         lines.append("PRINT 18")
     total, channels = sum(row), sum(n > 0 for n in row)
-    return lines + [f"QUOTE {serial} LEAST {least} TOTAL {total} CHANNELS {channels} LAYERS {LAYERS} FIGURE {100 * least // total}"]
+    return lines + [f"QUOTE {serial} LEAST {least} TOTAL {total} CHANNELS {channels} LAYERS {LAYERS} FIGURE {figure(least, total)}"]
 
 
 def answers(case):
@@ -200,7 +200,7 @@ WORKED = [
     "TRIAL LEAST 2 TOTAL 4 CHANNELS 2 0 1 0 1",
     "TRIED LEAST 2 TOTAL 4 CHANNELS 2 0 1 0 1",
     "ROW 0:2 1:1",
-    "QUOTE 7 LEAST 1 TOTAL 3 CHANNELS 2 LAYERS 1 FIGURE 33",
+    "QUOTE 7 LEAST 1 TOTAL 3 CHANNELS 2 LAYERS 1 FIGURE 34",
 ]
 assert answers(bridge({0: 2, 1: 1}, (1, 2))) == WORKED, answers(bridge({0: 2, 1: 1}, (1, 2)))
 

@@ -92,7 +92,7 @@ impl<B: Penalty + Copy> Job<B> {
         let mut sequencer = self.sequencer()?;
         Ok(match sequencer.best() {
             Ok((least, below)) => {
-                let figure = 100 * least / u64::from(self.readings.slots());
+                let figure = (100 * least).div_ceil(u64::from(self.readings.slots()));
                 Answer::Least {
                     least,
                     figure,

@@ -18,12 +18,17 @@ fn is_printed(issued: Issued, text: &str) -> bool {
 
 #[test]
 fn figures(rt: HostRuntime) {
-    assert_eq!(rt; figure(1, 3), Some(33));
-    assert_eq!(rt; figure(2, 3), Some(66));
     assert_eq!(rt; figure(0, 1), Some(0));
+    assert_eq!(rt; figure(1, 3), Some(34));
+    assert_eq!(rt; figure(2, 3), Some(67));
+    assert_eq!(rt; figure(2, 5), Some(40));
+    assert_eq!(rt; figure(3, 2), Some(150));
+    assert_eq!(rt; figure(160, 2), Some(8_000));
     assert_eq!(rt; figure(TOP - 1, 1), Some(109_951_162_777_400));
+    assert_eq!(rt; figure(TOP - 1, 4_096), Some(26_843_545_600));
     assert_eq!(rt; figure(1, 0), None);
-    assert_eq!(rt; figure(u64::MAX, 1), None);
+    assert_eq!(rt; figure(u64::MAX / 100, 1), Some(18_446_744_073_709_551_600));
+    assert_eq!(rt; figure(u64::MAX / 100 + 1, 1), None);
 }
 
 #[test]
@@ -40,7 +45,7 @@ fn printed(rt: HostRuntime) -> Result<(), Fail> {
     assert!(rt;
         is_printed(
             issued,
-            "QUOTE 7 LEAST 1 TOTAL 3 CHANNELS 2 LAYERS 0 FIGURE 33\n"
+            "QUOTE 7 LEAST 1 TOTAL 3 CHANNELS 2 LAYERS 0 FIGURE 34\n"
         )
     );
     let longest = Best {
