@@ -157,7 +157,7 @@ def best(cost, table):
 
 
 def figure(least, slots):
-    """The figure of a least: hundredths of the slots, rounded up."""
+    """The figure of a least: a hundred times the least, divided by the slots, rounded up."""
     return -(-100 * least // slots)
 
 
