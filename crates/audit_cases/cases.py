@@ -4,8 +4,8 @@
 The answers come from the rules as docs/RULES.md states them, word for word and slowly: every count
 is taken afresh from the list, and every refusal is looked for in the order of the table. Nothing
 here is shared with the Rattle code. A case is the length of an input in four bytes, the high byte
-first, and then the input. Its first line is that of the audit, its second has the costs of the dearest
-moments of the list, as many as there are places for; the number of places goes round (`PLACES`).
+first, and then the input. Its first line is that of the audit, its second has the dearest moments of
+the list, each after its cost, as many as there are places for; the number of places goes round (`PLACES`).
 """
 
 import random
@@ -62,12 +62,13 @@ def whole(input_):
 
 
 def dearest(input_, places):
-    """The costs of the dearest moments, as many as there are places for, the cheapest first."""
+    """The dearest moments after their costs, as many as there are places for, the cheapest first."""
     line = whole(input_)
     if line.startswith("REFUSED"):
         return "DEAREST " + " ".join(line.split()[:2])
-    costs = sorted(cost for cost, _, _ in moments(*parts(input_)))
-    return "DEAREST" + "".join(f" {cost}" for cost in costs[len(costs) - min(places, len(costs)) :])
+    ordered = sorted(moments(*parts(input_)), key=lambda moment: (moment[0], -moment[1], -moment[2]))
+    kept = ordered[len(ordered) - min(places, len(ordered)) :]
+    return "DEAREST" + "".join(f" {cost} ({k},{c})" for cost, k, c in kept)
 
 
 def table(**readings):
@@ -157,7 +158,9 @@ def at_random(rng):
 
 def main():
     # readings 2 and 1, list 0 1 0: q is 0 at k = 0 and k = 3, and 1 or -1 in between
-    assert dearest(bytes_of(table(c0=2, c1=1), [0, 1, 0]), 5) == "DEAREST 0 1 1 1 1"
+    level = bytes_of(table(c0=2, c1=1), [0, 1, 0])
+    assert dearest(level, 3) == "DEAREST 1 (2,0) 1 (1,1) 1 (1,0)"
+    assert dearest(level, 9) == "DEAREST 0 (3,1) 0 (3,0) 0 (0,1) 0 (0,0) 1 (2,1) 1 (2,0) 1 (1,1) 1 (1,0)"
     cases = []
     for input_, line in [*by_hand(), *refusals()]:
         assert whole(input_) == line, (line, whole(input_))

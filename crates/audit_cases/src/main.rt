@@ -1,5 +1,5 @@
-// Runs the audit over many inputs, one after another on standard input, and prints the line of each; and the costs of the dearest
-// moments of the list.
+// Runs the audit over many inputs, one after another on standard input, and prints the line of each; and the dearest moments of
+// the list with their costs.
 #![tactic(auto)]
 
 use cases::{Case, Cases};
@@ -27,7 +27,7 @@ impl<'a> Case<'a> for Input<'a> {
 // How many places the heap of the dearest moments has, in turn.
 const PLACES: [usize; 6] = [0, 1, 2, 5, 64, 300];
 
-// The costs of the dearest moments of an input, as they leave a heap with so many places; or why it is refused.
+// The dearest moments of an input, each after its cost, as they leave a heap with so many places; or why it is refused.
 fn dearest_line(heap: Global, Input(case): Input, places: usize) -> anyhow::Result<String> {
     let (front, list) = case.split_at(case.len().min(2 * CHANNELS));
     let (pairs, _rest) = front.as_chunks::<2>();
@@ -41,7 +41,11 @@ fn dearest_line(heap: Global, Input(case): Input, places: usize) -> anyhow::Resu
     match fill(&row, list, &mut kept) {
         Ok(()) => {
             while let Some(moment) = kept.pop() {
-                write!(line, " {}", moment.cost)?;
+                write!(
+                    line,
+                    " {} ({},{})",
+                    moment.cost, moment.slot, moment.channel
+                )?;
             }
         }
         Err(refusal) => write!(line, " REFUSED {}", refusal.number())?,

@@ -4,3 +4,4 @@ pub mod Sifts
 pub mod Kept
 pub mod Offers
 pub mod Selecting
+pub mod Leaving

@@ -1,7 +1,7 @@
 // What the moments of a list cost on a roster: the audit, and the dearest moments.
 ghost use Rattle.std.specs.Prelude.{◌≡◌, length};
 ghost use Rattle.round.specs.Audit.{Audited};
-ghost use Rattle.round.specs.Dearest.{FillsDearest};
+ghost use Rattle.round.specs.Dearest.{DearestAreOne, FillsDearest};
 
 use crate::roster::Roster;
 use heap::Heap;
@@ -27,6 +27,7 @@ impl<P: Penalty> Roster<P> {
         ensures long { length heap.new.items.now ≡ length heap.old.items.now }
         ensures dearest { FillsDearest (P.cost self.now.penalty) self.now.readings.by_channel list.now
             heap.old.items.now heap.old.len heap.new.items.now heap.new.len result }
+        ensures one { DearestAreOne (P.cost self.now.penalty) self.now.readings.by_channel list.now (length heap.old.items.now) }
     {
         self.readings.dearest(&self.penalty, list, heap)
     }

@@ -1,17 +1,18 @@
--- The moments of a list, one after another.
-use Rattle.std.proofs.Common.{rules, ◌≡◌, ℕ, ◌+◌, ◌<◌, true, cond, List, [], ◌∷◌, ◌++◌, map, append_assoc, sym, refl, ap, subst, ◌∙◌, arith}
+-- The moments of a list, one after another, and that the dearest of them are one list.
+use Rattle.std.proofs.Common.{◌≡◌, ℕ, ◌+◌, ◌<◌, cond, List, [], ◌∷◌, ◌++◌, map, append_assoc, sym, refl, ap, subst, ◌∙◌, arith}
 use Rattle.std.specs.Prelude.{filter, flat_map, nat_lt}
-use Rattle.std.specs.Cmp.Rules.{comparing}
 use Rattle.std.specs.List.{range_with_len}
 use Rattle.std.proofs.lemmas.Bool.{lt-ltb}
 use Rattle.std.proofs.lemmas.List.{append-nil, map-append, map-id}
 use Rattle.std.proofs.lemmas.List.Concat.{flat_map-append}
 use Rattle.std.proofs.lemmas.List.FromFn.{map-range_with_len_more}
 use Rattle.std.proofs.lemmas.List.Elements.{filter-append}
+use Rattle.heap.proofs.Leaving.{leave_as_one}
 use Rattle.heap.specs.Heaps.{AreLast}
 use Rattle.penalty.specs.Cost.{Cost}
-use Rattle.round.specs.Dearest.{channels_to, costed, costs_no_more, moments_at, moments_to}
+use Rattle.round.specs.Dearest.{DearestAreOne, channels_to, costed, moments, moments_at, moments_to, no_dearer}
 use Rattle.round.specs.Lists.{readings}
+use Rattle.round.specs.Order.{one_way, total}
 use Rattle.round.specs.declared.costed_moment.CostedMoment.{CostedMoment}
 
 -- one number more
@@ -47,15 +48,16 @@ moment_more f t l k n before some =
     ∙ ap (λ ms. before ++ ms) (map-append (costed f t l k) (channels_to t n) (n ∷ []))
     ∙ sym (append_assoc before (map (costed f t l k) (channels_to t n)) (costed f t l k n ∷ []))
 
--- the order of the costs is transitive
-pub costs_transitive : (x y z : CostedMoment) → costs_no_more x y ≡ true → costs_no_more y z ≡ true → costs_no_more x z ≡ true
-costs_transitive x y z = search (comparing, rules)
-
 -- what is kept of the moments up to a slot and of those at it
 pub slot_offered : (f : Cost) (t l : List ℕ) (k slot n places : ℕ) (xs : List CostedMoment) → slot ≡ k → n ≡ places →
-    AreLast costs_no_more (moments_to f t l k ++ moments_at f t l slot) n xs → AreLast costs_no_more (moments_to f t l (k + 1)) places xs
+    AreLast no_dearer (moments_to f t l k ++ moments_at f t l slot) n xs → AreLast no_dearer (moments_to f t l (k + 1)) places xs
 slot_offered f t l k slot n places xs same many kept =
     let at : moments_to f t l k ++ moments_at f t l slot ≡ moments_to f t l (k + 1) =
     ap (λ s. moments_to f t l k ++ moments_at f t l s) same ∙ sym (moments_more f t l k) in
-    let here = subst (λ (ms : List CostedMoment). AreLast costs_no_more ms n xs) at kept in
-    subst (λ (p : ℕ). AreLast costs_no_more (moments_to f t l (k + 1)) p xs) many here
+    let here = subst (λ (ms : List CostedMoment). AreLast no_dearer ms n xs) at kept in
+    subst (λ (p : ℕ). AreLast no_dearer (moments_to f t l (k + 1)) p xs) many here
+
+-- the dearest n moments leave every heap that keeps them as one list
+pub dearest_are_one : (f : Cost) (t l : List ℕ) (n : ℕ) → DearestAreOne f t l n
+dearest_are_one f t l n us vs first second =
+    leave_as_one no_dearer total one_way (moments f t l) n first.0 second.0 us vs first.1 second.1 first.2 second.2

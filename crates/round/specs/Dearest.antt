@@ -1,16 +1,17 @@
 -- The dearest moments of a list: all its moments with what they cost, the order of moments, and which ones are the dearest.
-use Rattle.std.specs.Prelude.{ℕ, ◌+◌, Bool, List, filter, flat_map, length, map, nat_le, nat_lt, sum, take, Result, Ok, Err}
+use Rattle.std.specs.Prelude.{◌≡◌, ℕ, ◌+◌, Bool, ◌&&◌, ◌||◌, ◌==◌, List, filter, flat_map, length, map, nat_le, nat_lt, sum, take, Result, Ok, Err}
 use Rattle.std.specs.List.{range_with_len}
-use Rattle.heap.specs.Heaps.{AreLast, Unchanged}
+use Rattle.heap.specs.Heaps.{AreLast, MayLeave, Unchanged}
 use Rattle.penalty.specs.Cost.{Cost}
 use Rattle.round.specs.Lists.{Complete, Sound, cost_at, readings}
 use Rattle.round.specs.Refusals.{Refused}
 use Rattle.round.specs.declared.costed_moment.CostedMoment.{CostedMoment}
 use Rattle.round.specs.declared.refusal.Refusal.{Refusal}
 
--- x costs at most what y costs
-abbrev pub costs_no_more : CostedMoment → CostedMoment → Bool
-costs_no_more x y = nat_le x.cost y.cost
+-- x is no dearer than y: it costs less; or it costs as much and its k is greater; or k is the same too, and its channel no smaller
+abbrev pub no_dearer : CostedMoment → CostedMoment → Bool
+no_dearer x y =
+    nat_lt x.cost y.cost || (x.cost == y.cost && (nat_lt y.slot x.slot || (x.slot == y.slot && nat_le y.channel x.channel)))
 
 -- the channels of a table among the first n channel numbers, in their order
 abbrev pub channels_to : List ℕ → ℕ → List ℕ
@@ -33,9 +34,17 @@ abbrev pub moments : Cost → List ℕ → List ℕ → List CostedMoment
 moments f t l = moments_to f t l (sum t + 1)
 
 -- xs are as many of the dearest moments of a list as n places hold, or all where they are fewer: a part of its moments, each with
--- what it costs, and none that is left out costs more than one of them
+-- what it costs, and each that is left out is no dearer than any of them
 abbrev pub AreDearest : Cost → List ℕ → List ℕ → ℕ → List CostedMoment → Type 0
-AreDearest f t l n xs = AreLast costs_no_more (moments f t l) n xs
+AreDearest f t l n xs = AreLast no_dearer (moments f t l) n xs
+
+-- us are the dearest moments of a list that n places hold, one after another as they may leave a heap: the cheapest first
+abbrev pub DearestInOrder : Cost → List ℕ → List ℕ → ℕ → List CostedMoment → Type 0
+DearestInOrder f t l n us = (xs : List CostedMoment) × AreDearest f t l n xs × MayLeave no_dearer xs us
+
+-- the dearest n moments of a list are one list, whatever heap keeps them and however they leave it
+abbrev pub DearestAreOne : Cost → List ℕ → List ℕ → ℕ → Type 0
+DearestAreOne f t l n = (us vs : List CostedMoment) → DearestInOrder f t l n us → DearestInOrder f t l n vs → us ≡ vs
 
 -- the heap that keeps the first n of xs is filled with the dearest moments of list l over table t, and then keeps the first m of
 -- ys; or it is refused as an audit of l would be, and the heap is as it was

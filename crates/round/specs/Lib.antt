@@ -2,6 +2,7 @@
 pub mod Audit
 pub mod Dearest
 pub mod Lists
+pub mod Order
 pub mod Refusals
 pub mod Tables
 pub mod Walk

@@ -3,7 +3,7 @@
 use Rattle.std.specs.Prelude.{◌≡◌, ℕ, ◌+◌, ◌<◌, ◌≤◌, ◌++◌, cond, List, Some, None, sum, Option, nat_lt, slice_index}
 use Rattle.heap.specs.Heaps.{AreLast}
 use Rattle.penalty.specs.Cost.{Cost}
-use Rattle.round.specs.Dearest.{costs_no_more, moments_at}
+use Rattle.round.specs.Dearest.{no_dearer, moments_at}
 use Rattle.round.specs.Lists.{Moment, Before, count, cost_at}
 use Rattle.round.specs.declared.costed_moment.CostedMoment.{CostedMoment}
 
@@ -42,4 +42,4 @@ larger_of (Some r) next = cond (nat_lt r.cost next.cost) next r
 -- the dearest of the moments so far and of these
 abbrev pub Offered : Cost → List ℕ → List ℕ → ℕ → ℕ → List CostedMoment → List CostedMoment → Type 0
 Offered f t counts k n xs ys =
-    (l : List ℕ) (ms : List CostedMoment) → Counted counts l k → AreLast costs_no_more ms n xs → AreLast costs_no_more (ms ++ moments_at f t l k) n ys
+    (l : List ℕ) (ms : List CostedMoment) → Counted counts l k → AreLast no_dearer ms n xs → AreLast no_dearer (ms ++ moments_at f t l k) n ys

@@ -1,7 +1,6 @@
-// A moment of a list with what it costs, and the order of moments by their costs.
-ghost use Rattle.round.specs.Dearest.{costs_no_more};
-ghost use Rattle.std.proofs.Common.{rules};
-ghost use Rattle.std.specs.Cmp.Rules.{comparing};
+// A moment of a list with what it costs, and the order of moments from the cheapest to the dearest.
+ghost use Rattle.round.specs.Dearest.{no_dearer};
+ghost use Rattle.round.specs.Order.{total, transitive};
 
 use heap::Ordered;
 
@@ -16,15 +15,16 @@ pub struct CostedMoment {
     pub channel: u8,
 }
 
-/// Of two moments the one that costs less comes first; of equal costs either may.
+/// The cheaper of two moments comes first. Of equal costs the one with the greater slot is cheaper, and after the same slot the one
+/// with the greater channel.
 impl Ordered for CostedMoment {
-    ghost leq = { costs_no_more };
+    ghost leq = { no_dearer };
 
-    ghost total = { Prim.search (comparing, rules) };
+    ghost total = { total };
 
-    ghost transitive = { Prim.search (comparing, rules) };
+    ghost transitive = { transitive };
 
     fn leq(&self, other: &CostedMoment) -> bool {
-        self.cost <= other.cost
+        (self.cost, other.slot, other.channel) <= (other.cost, self.slot, self.channel)
     }
 }

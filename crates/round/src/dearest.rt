@@ -1,6 +1,6 @@
 // The dearest moments of a list, as many as a heap has places for.
 ghost use Rattle.std.specs.Prelude.{◌≡◌, length, take};
-ghost use Rattle.round.specs.Dearest.{AreDearest, FillsDearest};
+ghost use Rattle.round.specs.Dearest.{AreDearest, DearestAreOne, FillsDearest};
 ghost use Rattle.round.specs.Lists.{Sound, Complete};
 ghost use Rattle.round.specs.Walk.{Offered};
 
@@ -25,6 +25,7 @@ impl Readings {
         ensures long { length heap.new.items.now ≡ length heap.old.items.now }
         ensures dearest { FillsDearest (P.cost penalty.now) self.now.by_channel list.now
             heap.old.items.now heap.old.len heap.new.items.now heap.new.len result }
+        ensures one { DearestAreOne (P.cost penalty.now) self.now.by_channel list.now (length heap.old.items.now) }
     {
         self.check(list)?;
         heap.clear();

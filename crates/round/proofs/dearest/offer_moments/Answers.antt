@@ -3,7 +3,7 @@ use Rattle.std.proofs.Common.{◌+◌, [], List, length, take, refl, sym, subst,
 use Rattle.std.proofs.lemmas.List.{append-nil, length-set}
 use Rattle.heap.proofs.Selecting.{last_none}
 use Rattle.heap.specs.Heaps.{AreLast}
-use Rattle.round.specs.Dearest.{costs_no_more, moments_to}
+use Rattle.round.specs.Dearest.{no_dearer, moments_to}
 use Rattle.round.specs.Walk.{Counted, Offered}
 use Rattle.round.specs.declared.costed_moment.CostedMoment.{CostedMoment}
 use Rattle.round.proofs.Counts.{counted_none, next_counted, next_room}
@@ -14,8 +14,8 @@ pub loop-i-init : goal.loop-i-init
 loop-i-init g c =
     let counted = counted_none 64 c.args.list.now in
     let heap = c.args.heap.now in
-    let none : AreLast costs_no_more [] (length heap.items.now) (take heap.len heap.items.now) =
-    rw c.requires.none (last_none costs_no_more (length heap.items.now)) in
+    let none : AreLast no_dearer [] (length heap.items.now) (take heap.len heap.items.now) =
+    rw c.requires.none (last_none no_dearer (length heap.items.now)) in
     let first = c.offer.ensures.offered c.args.list.now [] counted none in
     let next = c.offer.new.heap in (
       refl,
@@ -24,7 +24,7 @@ loop-i-init g c =
       counted,
       c.offer.ensures.named,
       c.offer.ensures.long,
-      subst (λ (ms : List CostedMoment). AreLast costs_no_more ms (length heap.items.now) (take next.len next.items.now)) (sym (append-nil _)) first,
+      subst (λ (ms : List CostedMoment). AreLast no_dearer ms (length heap.items.now) (take next.len next.items.now)) (sym (append-nil _)) first,
     )
 
 pub count_slot-requires : goal.count_slot-requires

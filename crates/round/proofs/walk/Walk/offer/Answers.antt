@@ -2,8 +2,9 @@
 use Rattle.std.proofs.Common.{◌≡◌, ◌++◌, ◌∷◌, [], ap, sum, sym, subst, ◌∙◌, length, map, take, arith, List}
 use Rattle.heap.proofs.Selecting.{last_offered}
 use Rattle.heap.specs.Heaps.{AreLast}
-use Rattle.round.proofs.Offering.{channels_same, costs_transitive, moment_more}
-use Rattle.round.specs.Dearest.{channels_to, costed, costs_no_more}
+use Rattle.round.proofs.Offering.{channels_same, moment_more}
+use Rattle.round.specs.Order.{transitive}
+use Rattle.round.specs.Dearest.{channels_to, costed, no_dearer}
 use Rattle.round.specs.Lists.{cost_at, readings}
 use Rattle.round.specs.declared.costed_moment.CostedMoment.{CostedMoment}
 use Rattle.round.proofs.walk.Walk.offer.Goals as goal
@@ -29,10 +30,10 @@ loop-channel-preserved g c =
                 let costs : w.cost_after-cost.result ≡ cost_at f t list slot channel =
                 rw w.cost_after-cost.ensures (ap (λ x. f (sum t) channel (readings t channel) x slot) (agree channel)) in
                 let is : offered ≡ costed f t list slot channel = ap (λ n. record { cost = n; slot = slot; channel = channel }) costs in
-                let kept = last_offered costs_no_more costs_transitive (before ++ map (costed f t list slot) (channels_to t channel)) offered
+                let kept = last_offered no_dearer transitive (before ++ map (costed f t list slot) (channels_to t channel)) offered
                 heap.items.now heap.len next.items.now next.len places old.1 w.offer.result heap.sound.room next.sound.room w.offer.ensures.offered
                 (old.2 list before agree first) in
-                subst (λ (ms : List CostedMoment). AreLast costs_no_more ms places (take next.len next.items.now))
+                subst (λ (ms : List CostedMoment). AreLast no_dearer ms places (take next.len next.items.now))
                 (ap (λ x. (before ++ map (costed f t list slot) (channels_to t channel)) ++ x ∷ []) is ∙ sym (moment_more f t list slot channel before (omega arith))) kept,
           )
       | else-of-gt0 w ↦

@@ -1,7 +1,7 @@
 -- The heap has been offered the moments up to the last channel.
 use Rattle.std.proofs.Common.{◌≡◌, ◌++◌, ℕ, List, length, map, take}
 use Rattle.heap.specs.Heaps.{AreLast}
-use Rattle.round.specs.Dearest.{channels_to, costed, costs_no_more}
+use Rattle.round.specs.Dearest.{channels_to, costed, no_dearer}
 use Rattle.round.specs.Walk.{Counted}
 use Rattle.round.specs.declared.costed_moment.CostedMoment.{CostedMoment}
 use Rattle.round.proofs.walk.Walk.offer.Given as goal
@@ -14,5 +14,5 @@ invariant-loop-channel g l =
     (l.heap.items.ghost_name ≡ l.initial.heap.items.ghost_name)
     × (length l.heap.items.now ≡ places)
     × ((list : List ℕ) (before : List CostedMoment) → Counted l.self.counts list l.slot →
-    AreLast costs_no_more before places (take l.initial.heap.len l.initial.heap.items.now) →
-    AreLast costs_no_more (before ++ map (costed f t list l.slot) (channels_to t l.channel)) places (take l.heap.len l.heap.items.now))
+    AreLast no_dearer before places (take l.initial.heap.len l.initial.heap.items.now) →
+    AreLast no_dearer (before ++ map (costed f t list l.slot) (channels_to t l.channel)) places (take l.heap.len l.heap.items.now))
