@@ -19,18 +19,18 @@ module _ {X : Type 0} (leq : X → X → Bool)
   abbrev Same : List X → List X → Type 0
   Same xs ys = (f : X → ℕ) → sum_by f xs ≡ sum_by f ys
 
-  -- where y may not come out before x it counts, and else it does not
+  -- 1 for an element that may not come out before x, 0 for another
   abbrev counts_after : X → X → ℕ
   counts_after x y = cond (leq y x) 0 1
 
-  -- where each may come out before x none counts
+  -- where each may come out before x none is counted
   none_after : (x : X) (ys : List X) → AllByRecursion (λ y. leq y x ≡ true) ys → sum_by (counts_after x) ys ≡ 0
   none_after x [] all = refl
   none_after x (y ∷ ys) all =
       let here : counts_after x y ≡ 0 = rw all.0 refl in
       omega (arith, sum_by-cons (counts_after x) y ys, here, none_after x ys all.1)
 
-  -- of lists with the same elements, if each of the first may come out before its front, the front of the second may too
+  -- of two lists with the same elements: where all of the first may come out before its front, the front of the second may too
   front_before : (x y : X) (xs ys : List X) → Same (x ∷ xs) (y ∷ ys) → AllByRecursion (λ z. leq z x ≡ true) xs → leq y x ≡ true
   front_before x y xs ys same all =
       let itself = ⊎_elim (λ t. t) (λ f. total x x f) (cases_Bool (leq x x)) in
@@ -41,7 +41,7 @@ module _ {X : Type 0} (leq : X → X → Bool)
       absurd (omega (arith, none, same (counts_after x), sum_by-cons (counts_after x) y ys, here)))
       (cases_Bool (leq y x))
 
-  -- an element of a list counts as it would in front of it
+  -- an element inside a list adds to a sum what it would in front
   moved : (f : X → ℕ) (x : X) (xs us : List X) → sum_by f (xs ++ x ∷ us) ≡ sum_by f ((x ∷ xs) ++ us)
   moved f x xs us = sym (sum_by-IsPermutation f (xs ++ x ∷ us) (x ∷ (xs ++ us)) (IsPermutation-middle xs x us))
 
@@ -54,7 +54,8 @@ module _ {X : Type 0} (leq : X → X → Bool)
   before_rest us x xs all =
       All-weaker (λ u. AllByRecursion (λ z. leq u z ≡ true) (x ∷ xs)) (λ u. AllByRecursion (λ z. leq u z ≡ true) xs) (λ u both. both.1) us all
 
-  -- lists in order are the same if they are as long, and with what is left out of each, which may come out before it, the same elements
+  -- two lists in order, as long as each other, are the same where each of them and what is left out, which may come out before all of
+  -- it, have together the same elements
   same_order : (xs ys us vs : List X) → length xs ≡ length ys → InOrder leq xs → InOrder leq ys → AllBefore us xs → AllBefore vs ys →
       Same (xs ++ us) (ys ++ vs) → xs ≡ ys
   same_order [] [] us vs long a b before_a before_b same = refl

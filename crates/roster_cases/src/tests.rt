@@ -386,7 +386,7 @@ fn questions(rt: HostRuntime) -> Result<(), Fail> {
 }
 
 // A moment with its cost.
-fn moment(cost: u64, slot: u16, channel: u8) -> CostedMoment {
+fn costed(cost: u64, slot: u16, channel: u8) -> CostedMoment {
     CostedMoment {
         cost,
         slot,
@@ -397,15 +397,15 @@ fn moment(cost: u64, slot: u16, channel: u8) -> CostedMoment {
 #[test]
 fn moments_of_a_list(rt: HostRuntime) -> Result<(), Fail> {
     let roster = roster(AbsoluteDeviation, &[2, 1])?;
-    assert_eq!(rt; roster.audit(&[0, 1, 0]), Ok(moment(1, 1, 0)));
+    assert_eq!(rt; roster.audit(&[0, 1, 0]), Ok(costed(1, 1, 0)));
     let mut memory = [CostedMoment::default(); 3];
     let mut heap = Heap::new(&mut memory);
     assert_eq!(rt; roster.dearest(&[0, 1, 0], &mut heap), Ok(()));
     assert_eq!(rt; roster.dearest(&[0, 0, 1], &mut heap), Ok(()));
     // the costs after slots 1 and 2 are 1 and 1, and 2 and 2
-    assert_eq!(rt; heap.pop(), Some(moment(1, 1, 0)));
-    assert_eq!(rt; heap.pop(), Some(moment(2, 2, 1)));
-    assert_eq!(rt; heap.pop(), Some(moment(2, 2, 0)));
+    assert_eq!(rt; heap.pop(), Some(costed(1, 1, 0)));
+    assert_eq!(rt; heap.pop(), Some(costed(2, 2, 1)));
+    assert_eq!(rt; heap.pop(), Some(costed(2, 2, 0)));
     assert_eq!(rt; heap.pop(), None);
     assert_eq!(rt; roster.audit(&[0, 1]), Err(round::Refusal::ListLength));
     assert_eq!(rt;
@@ -422,9 +422,9 @@ fn moments_of_equal_cost(rt: HostRuntime) -> Result<(), Fail> {
     let mut heap = Heap::new(&mut memory);
     // all four moments after slots 1 and 2 cost 1: the greatest slot leaves first, and of one slot the greater channel
     assert_eq!(rt; roster.dearest(&[0, 1, 0], &mut heap), Ok(()));
-    assert_eq!(rt; heap.pop(), Some(moment(1, 2, 0)));
-    assert_eq!(rt; heap.pop(), Some(moment(1, 1, 1)));
-    assert_eq!(rt; heap.pop(), Some(moment(1, 1, 0)));
+    assert_eq!(rt; heap.pop(), Some(costed(1, 2, 0)));
+    assert_eq!(rt; heap.pop(), Some(costed(1, 1, 1)));
+    assert_eq!(rt; heap.pop(), Some(costed(1, 1, 0)));
     assert_eq!(rt; heap.pop(), None);
     Ok(())
 }
