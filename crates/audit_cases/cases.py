@@ -62,7 +62,8 @@ def whole(input_):
 
 
 def dearest(input_, places):
-    """The dearest moments after their costs, as many as there are places for, the cheapest first."""
+    """The line of the dearest moments, each after its cost: as many as there are places for, the cheapest
+    first; or why it is refused."""
     line = whole(input_)
     if line.startswith("REFUSED"):
         return "DEAREST " + " ".join(line.split()[:2])

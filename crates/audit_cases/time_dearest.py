@@ -1,11 +1,11 @@
 #!/usr/bin/env python3
-"""Times the dearest 64 moments of 64 channels and 4,096 slots, by the program `audit_cases`.
+"""Times an audit and the dearest 64 moments of 64 channels and 4,096 slots, by the program `audit_cases`.
 
     time_dearest.py [PROGRAM ..]    times this crate's build, or these builds of it side by side
 
-The program is run on many copies of a list, which it audits too, and on as many whose last byte is wrong, which it refuses after
-the same bytes are read. The difference is the audit, the dearest moments and their line. Only every sixth case has 64 places, so
-empty inputs, which are refused at once, stand in between.
+The program is run on many copies of a list, and on as many whose last byte is wrong. Both are checked up to that byte, so the
+difference is the two walks over the moments, the heap and the line of the moments. Only every sixth case has 64 places, so empty
+inputs, which are refused at once, stand in between.
 """
 
 import sys

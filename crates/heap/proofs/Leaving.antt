@@ -30,7 +30,7 @@ module _ {X : Type 0} (leq : X → X → Bool)
       let here : counts_after x y ≡ 0 = rw all.0 refl in
       omega (arith, sum_by-cons (counts_after x) y ys, here, none_after x ys all.1)
 
-  -- of two lists with the same elements: where all of the first may come out before its front, the front of the second may too
+  -- two lists have the same elements, and each of the first may come out before its front x; then so may the front y of the second
   front_before : (x y : X) (xs ys : List X) → Same (x ∷ xs) (y ∷ ys) → AllByRecursion (λ z. leq z x ≡ true) xs → leq y x ≡ true
   front_before x y xs ys same all =
       let itself = ⊎_elim (λ t. t) (λ f. total x x f) (cases_Bool (leq x x)) in
@@ -54,8 +54,8 @@ module _ {X : Type 0} (leq : X → X → Bool)
   before_rest us x xs all =
       All-weaker (λ u. AllByRecursion (λ z. leq u z ≡ true) (x ∷ xs)) (λ u. AllByRecursion (λ z. leq u z ≡ true) xs) (λ u both. both.1) us all
 
-  -- two lists in order, as long as each other, are the same where each of them and what is left out, which may come out before all of
-  -- it, have together the same elements
+  -- xs and ys are in order and equally long; us and vs, which they leave out, may come out before all of them; and each with what it
+  -- leaves out has the same elements. Then they are one list
   same_order : (xs ys us vs : List X) → length xs ≡ length ys → InOrder leq xs → InOrder leq ys → AllBefore us xs → AllBefore vs ys →
       Same (xs ++ us) (ys ++ vs) → xs ≡ ys
   same_order [] [] us vs long a b before_a before_b same = refl

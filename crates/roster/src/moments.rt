@@ -16,8 +16,8 @@ impl<P: Penalty> Roster<P> {
         self.readings.audit(&self.penalty, list)
     }
 
-    /// Fills a heap with the dearest moments of a list of the channels, as many as it has places for. What it kept before is given
-    /// up. Refused, it changes nothing.
+    /// Fills a heap with the dearest moments of a list of the channels, as many as it has places for. Which they are, and in which
+    /// order they come out, is settled by the order of `CostedMoment`. What it kept before is given up. Refused, it changes nothing.
     pub fn dearest(
         &self,
         list: &[u8],

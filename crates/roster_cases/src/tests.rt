@@ -426,5 +426,15 @@ fn moments_of_equal_cost(rt: HostRuntime) -> Result<(), Fail> {
     assert_eq!(rt; heap.pop(), Some(costed(1, 1, 1)));
     assert_eq!(rt; heap.pop(), Some(costed(1, 1, 0)));
     assert_eq!(rt; heap.pop(), None);
+    // nine places keep all eight moments
+    let mut more = [CostedMoment::default(); 9];
+    let mut all = Heap::new(&mut more);
+    assert_eq!(rt; roster.dearest(&[0, 1, 0], &mut all), Ok(()));
+    for slot in [3, 0, 2, 1] {
+        let cost = u64::from(slot == 1 || slot == 2);
+        assert_eq!(rt; all.pop(), Some(costed(cost, slot, 1)));
+        assert_eq!(rt; all.pop(), Some(costed(cost, slot, 0)));
+    }
+    assert_eq!(rt; all.pop(), None);
     Ok(())
 }

@@ -6,11 +6,11 @@ use Rattle.std.proofs.lemmas.Bool.Decides.{nat_tests}
 use Rattle.round.specs.Dearest.{no_dearer}
 use Rattle.round.specs.declared.costed_moment.CostedMoment.{CostedMoment}
 
--- of two moments one is no dearer than the other
+-- of two moments at least one is no dearer than the other
 pub total : (x y : CostedMoment) → no_dearer x y ≡ false → no_dearer y x ≡ true
 total x y = search (comparing, rules)
 
--- what is no dearer than a moment that is no dearer than a third is no dearer than the third
+-- where x is no dearer than y, and y no dearer than z, x is no dearer than z
 pub transitive : (x y z : CostedMoment) → no_dearer x y ≡ true → no_dearer y z ≡ true → no_dearer x z ≡ true
 transitive x y z = search (comparing, rules)
 

@@ -14,7 +14,8 @@ use penalty::{CHANNELS, Penalty};
 
 impl Readings {
     /// Fills a heap with the dearest moments of a list of these channels: as many as its memory has places, or all where they
-    /// are fewer. The cheapest of them then comes out first. What the heap kept before is given up. Refused, it changes nothing.
+    /// are fewer. The cheapest of them then comes out first. Which they are, and in which order they come out, is settled by the
+    /// order of `CostedMoment`. What the heap kept before is given up. Refused, it changes nothing.
     pub fn dearest<P: Penalty>(
         &self,
         penalty: &P,
