@@ -26,7 +26,7 @@ def in_domain(S, c, d, x, k):
 
 
 def bottom_cost(two_sided, S, c, d, x, k):
-    """The cost of a bottom."""
+    """The cost of the absolute deviation or of the two-sided bottom."""
     if not in_domain(S, c, d, x, k):
         return TOP
     q = S * x - k * d
@@ -34,6 +34,25 @@ def bottom_cost(two_sided, S, c, d, x, k):
         return abs(q)
     s = min(255, 8 * abs(q) // S)
     return 40 * s if q < 0 else root(s)
+
+
+def own_cost(rows, S, c, d, x, k):
+    """The cost of the bottom over an owner's rows, ahead and behind."""
+    if not in_domain(S, c, d, x, k):
+        return TOP
+    eighths = 8 * (S * x - k * d)
+    ahead, behind = rows
+    return behind[min(255, -eighths // S)] if eighths < 0 else ahead[min(255, eighths // S)]
+
+
+def rows_refused(rows):
+    """Why an owner's rows are refused: number, row (0 ahead, 1 behind) and step of the first fault, or None where there is none."""
+    faults = []
+    for at, row in enumerate(rows):
+        faults += [(21, at, 0)] * (len(row) != 256)
+        faults += [(22, at, 0)] * (row[:1] not in ([], [0]))
+        faults += [(23, at, step) for step in range(1, len(row)) if row[step] < row[step - 1]]
+    return min(faults, default=None)
 
 
 def centred_cost(centres, x, k):

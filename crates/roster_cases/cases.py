@@ -167,7 +167,7 @@ def worked():
 
 
 def every_small_table():
-    """Every table of up to three channels and six readings, under both bottoms."""
+    """Every table of up to three channels and six readings, under the absolute deviation and the two-sided bottom."""
     for t in product(range(7), repeat=3):
         if 1 <= sum(t) <= 6:
             table = channels({c: n for c, n in enumerate(t) if n})

@@ -129,7 +129,7 @@ def worked():
 
 
 def every_small_table():
-    """Every table of up to three channels and six readings, under both bottoms, with one reading more of the second channel."""
+    """Every table of up to three channels and six readings, under the absolute deviation and the two-sided bottom, with one reading more of the second channel."""
     for t in product(range(7), repeat=3):
         if 1 <= sum(t) <= 6:
             table = {c: n for c, n in enumerate(t) if n}

@@ -13,20 +13,25 @@ mod tests;
 
 use asking::tally_of;
 use cases::Cases;
-use penalty::{AbsoluteDeviation, TwoSided};
+use penalty::{AbsoluteDeviation, OwnTable, TwoSided};
 use query::{Bottom, Group};
 use std::alloc::Global;
 use std::io::Read;
 use std::str::from_utf8;
 use tally::Tally;
+use test_support::numbers;
 
 // The counts of a group.
 fn tally_of_group(heap: Global, group: &Group) -> anyhow::Result<Tally> {
+    let rows = numbers(heap, group.rows)?;
+    let (ahead, behind) = rows.split_at(rows.len() / 2);
+    let table = OwnTable::new(ahead, behind);
     let mut tally = Tally::default();
     for query in group.rosters() {
         let more = match group.bottom {
             Bottom::Absolute => tally_of(heap, AbsoluteDeviation, &query)?,
             Bottom::TwoSided => tally_of(heap, TwoSided, &query)?,
+            Bottom::OwnTable => tally_of(heap, table, &query)?,
         };
         tally = tally.and(more);
     }

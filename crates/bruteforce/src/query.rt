@@ -9,34 +9,40 @@ const ENTRY_BYTES: usize = 4;
 pub enum Bottom {
     Absolute,
     TwoSided,
+    OwnTable,
 }
 
 impl From<u8> for Bottom {
     fn from(code: u8) -> Bottom {
         match code {
             0 => Bottom::Absolute,
-            _ => Bottom::TwoSided,
+            1 => Bottom::TwoSided,
+            _ => Bottom::OwnTable,
         }
     }
 }
 
-/// Rosters over one bottom, under a name.
+/// Rosters over one bottom, under a name; for an own table its rows, one after the other, four bytes a number.
 #[derive(Clone, Copy)]
 pub struct Group<'a> {
     pub bottom: Bottom,
     pub name: &'a [u8],
+    pub rows: &'a [u8],
     rosters: &'a [u8],
 }
 
 impl<'a> Case<'a> for Group<'a> {
     fn split_first(bytes: &'a [u8]) -> Option<(Group<'a>, &'a [u8])> {
-        let ([bottom, name, n3, n2, n1, n0], rest) = bytes.split_first_chunk::<6>()?;
+        let ([bottom, name, r1, r0, n3, n2, n1, n0], rest) = bytes.split_first_chunk::<8>()?;
         let (name, rest) = rest.split_at_checked(usize::from(*name))?;
+        let length = u16::from_be_bytes([*r1, *r0]);
+        let (rows, rest) = rest.split_at_checked(usize::from(length))?;
         let length = u32::from_be_bytes([*n3, *n2, *n1, *n0]);
         let (rosters, rest) = rest.split_at_checked(length as usize)?;
         let group = Group {
             bottom: Bottom::from(*bottom),
             name,
+            rows,
             rosters,
         };
         Some((group, rest))

@@ -5,6 +5,9 @@ pub mod Cost
 pub mod Deviation
 pub mod Layers
 pub mod Maps
+pub mod OwnRows
+pub mod OwnTable
+pub mod OwnTableLaws
 pub mod Question
 pub mod Rising
 pub mod Scales

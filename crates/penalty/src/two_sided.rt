@@ -1,13 +1,13 @@
 // The two-sided bottom: being behind the even share costs by another scale than being ahead of it.
-ghost use Rattle.std.specs.Prelude.{◌≡◌, ◌<◌, ◌≤◌, ◌^◌};
-ghost use Rattle.penalty.specs.TwoSided.{two_sided, step as step_of};
+ghost use Rattle.std.specs.Prelude.{◌≡◌};
+ghost use Rattle.penalty.specs.TwoSided.{two_sided};
 ghost use Rattle.penalty.specs.TwoSidedLaws.{two_sided_capped, two_sided_valley};
 ghost use Rattle.std.proofs.Common.{rules};
 
-use crate::deviation::deviation;
 use crate::interface::{Penalty, TOP};
 use crate::question::Question;
 use crate::root_table::roots;
+use crate::side::{Side, side_and_step};
 
 /// 40 for each step where the count is behind its even share, the root table where it is not.
 #[derive(Clone, Copy)]
@@ -29,25 +29,14 @@ impl Penalty for TwoSided {
         if !question.in_domain() {
             return TOP;
         }
-        let q = deviation(question);
-        let step = step(q.unsigned_abs(), question.slots);
-        if q < 0 {
-            return 40 * u64::from(step);
+        match side_and_step(question) {
+            (Side::Ahead, step) => u64::from(roots()[usize::from(step)]),
+            (Side::Behind, step) => 40 * u64::from(step),
         }
-        u64::from(roots()[usize::from(step)])
     }
 
     // No default in the trait: `0 ≡ depth self.now` does not prove there, since an impl may say another depth.
     fn depth(&self) -> u8 {
         0
     }
-}
-
-// The step of a q of this size: how many whole eighths of a reading it is, but at most 255.
-fn step(size: u64, slots: u16) -> u8
-    requires small { size < 2 ^ 32 }
-    requires slots { 1 ≤ slots }
-    ensures { result ≡ step_of slots size }
-{
-    (8 * size / u64::from(slots)).min(255) as u8
 }

@@ -2,129 +2,92 @@
 #![tactic(auto)]
 
 mod pile;
+mod query;
+#[cfg(test)]
+mod row_tests;
 #[cfg(test)]
 mod tests;
 
-ghost use Rattle.std.specs.Prelude.{◌<◌, length, IfSome};
-
-use cases::{Case, Cases};
+use cases::Cases;
 use penalty::{
-    AbsoluteDeviation, Band, Layers, Question, SettingRefusal, Stop, Threshold, TwoSided, Weights,
+    AbsoluteDeviation, Band, Layers, OwnTable, Question, RowRefusal, SettingRefusal, Side, Stop,
+    Threshold, TwoSided, Weights,
 };
 use pile::pile_cost;
-use std::io;
+use query::{Bottom, Query, Settings};
+use std::alloc::Global;
 use std::io::Read;
+use test_support::numbers;
 
-// Which bottom a case is about.
-#[derive(Clone, Copy)]
-enum Bottom {
-    Absolute,
-    TwoSided,
-}
-
-impl From<u8> for Bottom {
-    fn from(code: u8) -> Bottom {
-        match code {
-            1 => Bottom::TwoSided,
-            _ => Bottom::Absolute,
-        }
-    }
-}
-
-impl Bottom {
-    // The cost of a question under layers over this bottom.
-    fn cost(self, layers: Layers, question: Question) -> u64 {
-        match self {
-            Bottom::Absolute => pile_cost(AbsoluteDeviation, layers, question),
-            Bottom::TwoSided => pile_cost(TwoSided, layers, question),
-        }
-    }
-}
-
-// A case: which bottom, the settings of the layers over it, and a question.
-#[derive(Clone, Copy)]
-struct Query {
-    bottom: Bottom,
-    weight_channel: u8,
-    weight: u16,
-    tolerance: u32,
-    limit: u32,
-    question: Question,
-}
-
-// The question at the front of the bytes, and the bytes after it; no `Case`, since both are of other crates.
-fn next_question(bytes: &[u8]) -> Option<(Question, &[u8])>
-    ensures { IfSome result (λ parts. length parts.1.now < length bytes.now) }
-{
-    let [s1, s0, channel, d1, d0, x1, x0, k1, k0, rest @ ..] = bytes else {
-        return None;
-    };
-    let question = Question {
-        slots: u16::from_be_bytes([*s1, *s0]),
-        channel: *channel,
-        readings: u16::from_be_bytes([*d1, *d0]),
-        count: u16::from_be_bytes([*x1, *x0]),
-        slot: u16::from_be_bytes([*k1, *k0]),
-    };
-    Some((question, rest))
-}
-
-impl<'a> Case<'a> for Query {
-    fn split_first(bytes: &'a [u8]) -> Option<(Query, &'a [u8])> {
-        let [
-            bottom,
-            channel,
-            w1,
-            w0,
-            t3,
-            t2,
-            t1,
-            t0,
-            e3,
-            e2,
-            e1,
-            e0,
-            rest @ ..,
-        ] = bytes
-        else {
-            return None;
-        };
-        let (question, rest) = next_question(rest)?;
-        let query = Query {
-            bottom: Bottom::from(*bottom),
-            weight_channel: *channel,
-            weight: u16::from_be_bytes([*w1, *w0]),
-            tolerance: u32::from_be_bytes([*t3, *t2, *t1, *t0]),
-            limit: u32::from_be_bytes([*e3, *e2, *e1, *e0]),
-            question,
-        };
-        Some((query, rest))
-    }
-}
-
-// The cost of a case, unless one of its settings is refused.
-fn answer(query: &Query) -> Result<u64, SettingRefusal> {
+// The layers with these settings.
+fn layers_of(settings: Settings) -> Result<Layers, SettingRefusal> {
     let mut weights = Weights::new();
-    weights.set(query.weight_channel, query.weight)?;
-    let layers = Layers {
+    weights.set(settings.channel, settings.weight)?;
+    Ok(Layers {
         weights,
         band: Band {
-            tolerance: Threshold::try_from(query.tolerance)?,
+            tolerance: Threshold::try_from(settings.tolerance)?,
         },
         stop: Stop {
-            limit: Threshold::try_from(query.limit)?,
+            limit: Threshold::try_from(settings.limit)?,
         },
-    };
-    Ok(query.bottom.cost(layers, query.question))
+    })
 }
 
-fn main(rt: HostRuntime) -> io::Result<()> {
+// The cost of a question under layers over a bottom, of which the own one is this table.
+fn cost(bottom: Bottom, table: OwnTable, layers: Layers, question: Question) -> u64 {
+    match bottom {
+        Bottom::Absolute => pile_cost(AbsoluteDeviation, layers, question),
+        Bottom::TwoSided => pile_cost(TwoSided, layers, question),
+        Bottom::OwnTable => pile_cost(table, layers, question),
+    }
+}
+
+// The name of a row.
+fn name(row: Side) -> &'static str {
+    match row {
+        Side::Ahead => "AHEAD",
+        Side::Behind => "BEHIND",
+    }
+}
+
+// The line of a check of rows.
+fn checked(heap: Global, ahead: &[u32], behind: &[u32]) -> anyhow::Result<String> {
+    let Err(refusal) = OwnTable::check(ahead, behind) else {
+        return Ok(String::from_str(heap, "ROWS")?);
+    };
+    let number = refusal.number();
+    Ok(match refusal {
+        RowRefusal::Length { row } | RowRefusal::First { row } => {
+            format!(in heap; "REFUSED {number} {}", name(row))?
+        }
+        RowRefusal::Falls { row, step } => {
+            format!(in heap; "REFUSED {number} {} STEP {step}", name(row))?
+        }
+    })
+}
+
+fn main(rt: HostRuntime) -> anyhow::Result<()> {
     let mut input = Vec::new(rt.alloc());
     rt.stdin().read_to_end(&mut input)?;
-    for query in Cases::new(&input) {
-        match answer(&query) {
-            Ok(cost) => println!(rt; "{cost}")?,
-            Err(refusal) => println!(rt; "REFUSED {}", refusal.number())?,
+    let mut rows = (Vec::new(rt.alloc()), Vec::new(rt.alloc()));
+    for query in Cases::<Query>::new(&input) {
+        match query {
+            Query::Rows { ahead, behind } => {
+                rows = (numbers(rt.alloc(), ahead)?, numbers(rt.alloc(), behind)?);
+                println!(rt; "{}", checked(rt.alloc(), &rows.0, &rows.1)?)?;
+            }
+            Query::Cost {
+                bottom,
+                settings,
+                question,
+            } => match layers_of(settings) {
+                Ok(layers) => {
+                    let table = OwnTable::new(&rows.0, &rows.1);
+                    println!(rt; "{}", cost(bottom, table, layers, question))?;
+                }
+                Err(refusal) => println!(rt; "REFUSED {}", refusal.number())?,
+            },
         }
     }
     Ok(())

@@ -4,11 +4,12 @@ ghost use Rattle.penalty.specs.Cost.{bottom};
 ghost use Rattle.std.proofs.Common.{rules};
 
 use penalty::{
-    AbsoluteDeviation, Band, Layer, Layered, Layers, Penalty, Pile, Question, SettingRefusal, Stop,
-    TOP, Threshold, TwoSided, Weights,
+    AbsoluteDeviation, Band, Layer, Layered, Layers, OwnTable, Penalty, Question, SettingRefusal,
+    Stop, TOP, Threshold, TwoSided, Weights,
 };
 use round::{CostedMoment, Refusal, audit};
 use std::test::Fail;
+use test_support::worked_rows;
 
 // A bottom of one cost and a depth of its own, for costs and depths that the bottoms do not reach.
 #[derive(Clone, Copy)]
@@ -80,14 +81,13 @@ fn three_to_one() -> Result<Weights, SettingRefusal> {
     Ok(weights)
 }
 
-// Stop over band 1 over weights 3 and 1 over a penalty.
-fn pile<P: Penalty + Drop>(below: P, limit: u32) -> Result<Pile<P>, SettingRefusal> {
-    let layers = Layers {
+// Stop over band 1 over weights 3 and 1.
+fn layers(limit: u32) -> Result<Layers, SettingRefusal> {
+    Ok(Layers {
         weights: three_to_one()?,
         band: band(1)?,
         stop: stop(limit)?,
-    };
-    Ok(layers.over(below))
+    })
 }
 
 // The audit of readings 1 and 1.
@@ -129,6 +129,9 @@ fn constant_under<L: Layer + Copy>(constant: u64, layer: &L) -> u64 {
 fn bottoms(rt: HostRuntime) {
     assert_eq!(rt; costs(&AbsoluteDeviation, 0), [0, 2, 1, 1, 2, 0]);
     assert_eq!(rt; costs(&TwoSided, 0), [0, 89, 160, 63, 320, 0]);
+    let (ahead, behind) = worked_rows();
+    let table = OwnTable::new(&ahead, &behind);
+    assert_eq!(rt; costs(&table, 0), [0, 64, 0, 16, 500, 0]);
 }
 
 #[test]
@@ -231,34 +234,49 @@ fn depths(rt: HostRuntime) -> Result<(), Fail> {
 
 #[test]
 fn piles(rt: HostRuntime) -> Result<(), Fail> {
-    let absolute = pile(AbsoluteDeviation, 1)?;
+    let absolute = layers(1)?.over(AbsoluteDeviation);
     assert_eq!(rt; costs(&absolute, 0), [0, TOP, 2, 2, 5, 0]);
     assert_eq!(rt; costs(&absolute, 1), [0, TOP, 0, 0, 1, 0]);
-    let two_sided = pile(TwoSided, 1)?;
+    let two_sided = layers(1)?.over(TwoSided);
     assert_eq!(rt; costs(&two_sided, 0), [0, TOP, 479, 188, 959, 0]);
     assert_eq!(rt; costs(&two_sided, 1), [0, TOP, 159, 62, 319, 0]);
+    let (ahead, behind) = worked_rows();
+    let own = layers(1)?.over(OwnTable::new(&ahead, &behind));
+    assert_eq!(rt; costs(&own, 0), [0, TOP, 0, 47, 1499, 0]);
+    assert_eq!(rt; costs(&own, 1), [0, TOP, 0, 15, 499, 0]);
     Ok(())
 }
 
 #[test]
 fn audits_over_piles(rt: HostRuntime) -> Result<(), Fail> {
     assert_eq!(rt;
-        audited(&pile(AbsoluteDeviation, 1)?, &[0, 1]),
+        audited(&layers(1)?.over(AbsoluteDeviation), &[0, 1]),
         largest(2, 0)
     );
     assert_eq!(rt;
-        audited(&pile(AbsoluteDeviation, 0)?, &[0, 1]),
+        audited(&layers(0)?.over(AbsoluteDeviation), &[0, 1]),
         largest(TOP, 0)
     );
     assert_eq!(rt;
-        audited(&pile(AbsoluteDeviation, 0)?, &[1, 0]),
+        audited(&layers(0)?.over(AbsoluteDeviation), &[1, 0]),
         largest(TOP, 1)
     );
-    assert_eq!(rt; audited(&pile(TwoSided, 1)?, &[0, 1]), largest(188, 0));
-    assert_eq!(rt; audited(&pile(TwoSided, 1)?, &[1, 0]), largest(479, 0));
     assert_eq!(rt;
-        audited(&pile(TwoSided, 1)?, &[1, 1]),
+        audited(&layers(1)?.over(TwoSided), &[0, 1]),
+        largest(188, 0)
+    );
+    assert_eq!(rt;
+        audited(&layers(1)?.over(TwoSided), &[1, 0]),
+        largest(479, 0)
+    );
+    assert_eq!(rt;
+        audited(&layers(1)?.over(TwoSided), &[1, 1]),
         Err(Refusal::WrongCount { channel: 0 })
     );
+    let (ahead, behind) = worked_rows();
+    let own = OwnTable::new(&ahead, &behind);
+    assert_eq!(rt; audited(&own, &[0, 1]), largest(16, 0));
+    assert_eq!(rt; audited(&layers(1)?.over(own), &[0, 1]), largest(47, 0));
+    assert_eq!(rt; audited(&layers(1)?.over(own), &[1, 0]), largest(15, 1));
     Ok(())
 }

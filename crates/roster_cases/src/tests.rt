@@ -5,13 +5,14 @@ ghost use Rattle.std.specs.Prelude.{◌<◌, ◌≤◌};
 use heap::Heap;
 use matching::{Crowd, Ready, Window};
 use penalty::{
-    AbsoluteDeviation, Band, LIMIT, Layered, Penalty, Stop, TOP, Threshold, TwoSided, Weights,
+    AbsoluteDeviation, Band, LIMIT, Layered, Layers, OwnTable, Penalty, Stop, TOP, Threshold,
+    TwoSided, Weights,
 };
 use roster::{Answer, Call, Refusal, Roster, Sizes, play};
 use round::{CostedMoment, Readings};
 use sequencing::{Best, Block, Listed, Outcome, best as best_of};
 use std::test::Fail;
-use test_support::{Counting, EMPTY};
+use test_support::{Counting, EMPTY, worked_rows};
 use windows::Moment;
 
 // A byte that no list has.
@@ -55,14 +56,57 @@ fn best<P: Penalty + Drop>(penalty: P, readings: &[u16]) -> Result<(Outcome, [u8
     }
 }
 
-// What list finds at a bound under the absolute deviation, and the list bytes after it.
-fn list(readings: &[u16], bound: u64) -> Result<(Result<Listed, Refusal>, [u8; 6]), Fail> {
+// What list finds at a bound, and the list bytes after it.
+fn list_under<P: Penalty + Drop>(
+    penalty: P,
+    readings: &[u16],
+    bound: u64,
+) -> Result<(Result<Listed, Refusal>, [u8; 6]), Fail> {
     let mut windows = [EMPTY; 6];
     let mut ready = [UNREAD; 64];
     let mut list = [FREE; 6];
-    let roster = roster(AbsoluteDeviation, readings)?;
+    let roster = roster(penalty, readings)?;
     let listed = roster.list(bound, &mut windows, &mut ready, &mut list);
     Ok((listed, list))
+}
+
+// What best finds under layers over a bottom.
+fn best_over<P: Penalty + Drop>(
+    bottom: P,
+    layers: Layers,
+    readings: &[u16],
+) -> Result<(Outcome, [u8; 6]), Fail> {
+    best(layers.over(bottom), readings)
+}
+
+// What list finds at a bound under layers over a bottom.
+fn list_over<P: Penalty + Drop>(
+    bottom: P,
+    layers: Layers,
+    readings: &[u16],
+    bound: u64,
+) -> Result<(Result<Listed, Refusal>, [u8; 6]), Fail> {
+    list_under(layers.over(bottom), readings, bound)
+}
+
+// What list finds under the absolute deviation.
+fn list(readings: &[u16], bound: u64) -> Result<(Result<Listed, Refusal>, [u8; 6]), Fail> {
+    list_under(AbsoluteDeviation, readings, bound)
+}
+
+// The dearest moment of a list.
+fn dearest<P: Penalty + Drop>(
+    penalty: P,
+    readings: &[u16],
+    list: &[u8],
+) -> Result<Option<CostedMoment>, Fail> {
+    let mut memory = [CostedMoment::default(); 1];
+    let mut heap = Heap::new(&mut memory);
+    let roster = roster(penalty, readings)?;
+    match roster.dearest(list, &mut heap) {
+        Ok(()) => Ok(heap.pop()),
+        Err(_) => Err(Fail::new("dearest is refused")),
+    }
 }
 
 // The least bound with the block below it.
@@ -165,6 +209,89 @@ fn worked_layers(rt: HostRuntime) -> Result<(), Fail> {
     let (outcome, bytes) = best(TwoSided, &[1, 1])?;
     assert_eq!(rt; outcome, least(160, Some(crowd(1, 1, 2))));
     assert_eq!(rt; bytes, [0, 1, FREE, FREE, FREE, FREE]);
+    Ok(())
+}
+
+#[test]
+fn worked_own_table(rt: HostRuntime) -> Result<(), Fail> {
+    let (ahead, behind) = worked_rows();
+    let table = OwnTable::new(&ahead, &behind);
+    // after slot 1 the channel that stands there costs 16, and the other nothing
+    let in_turn = [0, 1, FREE, FREE, FREE, FREE];
+    let (outcome, bytes) = best(table, &[1, 1])?;
+    assert_eq!(rt; outcome, least(16, Some(crowd(2, 2, 2))));
+    assert_eq!(rt; bytes, in_turn);
+    let (listed, bytes) = list_under(table, &[1, 1], 16)?;
+    assert_eq!(rt; listed, Ok(Listed::Within));
+    assert_eq!(rt; bytes, in_turn);
+    let (listed, bytes) = list_under(table, &[1, 1], 15)?;
+    assert_eq!(rt; listed, Ok(Listed::Over(crowd(2, 2, 2))));
+    assert_eq!(rt; bytes, [FREE; 6]);
+    assert_eq!(rt; dearest(table, &[1, 1], &[0, 1])?, Some(costed(16, 1, 0)));
+    // with rows of zeros no list costs anything
+    let zeros = OwnTable::new(&ahead, &behind[1..]);
+    let (outcome, bytes) = best(zeros, &[1, 1])?;
+    assert_eq!(rt; outcome, least(0, None));
+    assert_eq!(rt; bytes, in_turn);
+    Ok(())
+}
+
+// Rows of the largest number from step 1 on: after slot 1 every count costs it.
+#[test]
+fn largest_numbers(rt: HostRuntime) -> Result<(), Fail> {
+    let mut row = [u32::MAX; 256];
+    row[0] = 0;
+    let table = OwnTable::new(&row, &row);
+    let (outcome, bytes) = best(table, &[1, 1])?;
+    assert_eq!(rt; outcome, least(4_294_967_295, Some(moment(1, 0))));
+    assert_eq!(rt; bytes, [0, 1, FREE, FREE, FREE, FREE]);
+    let (listed, _bytes) = list_under(table, &[1, 1], 4_294_967_294)?;
+    assert_eq!(rt; listed, Ok(Listed::Over(moment(1, 0))));
+    Ok(())
+}
+
+// Under weights 3 and 1, band 1 and stop 1 channel 0 in slot 1 costs 47, and channel 1 there 15.
+#[test]
+fn worked_own_table_under_layers(rt: HostRuntime) -> Result<(), Fail> {
+    let (ahead, behind) = worked_rows();
+    let mut layers = Layers::new();
+    assert_eq!(rt; layers.weights.set(0, 3), Ok(()));
+    layers.band.tolerance = threshold(1)?;
+    layers.stop.limit = threshold(1)?;
+    let table = OwnTable::new(&ahead, &behind);
+    let turned = [1, 0, FREE, FREE, FREE, FREE];
+    let (outcome, bytes) = best_over(table, layers, &[1, 1])?;
+    assert_eq!(rt; outcome, least(15, Some(crowd(2, 2, 2))));
+    assert_eq!(rt; bytes, turned);
+    let (listed, bytes) = list_over(table, layers, &[1, 1], 15)?;
+    assert_eq!(rt; listed, Ok(Listed::Within));
+    assert_eq!(rt; bytes, turned);
+    let (listed, bytes) = list_over(table, layers, &[1, 1], 14)?;
+    assert_eq!(rt; listed, Ok(Listed::Over(crowd(2, 2, 2))));
+    assert_eq!(rt; bytes, [FREE; 6]);
+    Ok(())
+}
+
+// A series over an owner's table: two adds and the best.
+#[test]
+fn series_over_own_table(rt: HostRuntime) -> Result<(), Fail> {
+    let (ahead, behind) = worked_rows();
+    let calls = [add(0, 1), add(1, 1), best_call(lent(2, 64, 2))];
+    let mut replies = [Ok(Answer::Done); 3];
+    let mut windows = [EMPTY; 2];
+    let mut ready = [UNREAD; 64];
+    let mut list = [FREE; 2];
+    let played = play(
+        OwnTable::new(&ahead, &behind),
+        &calls,
+        &mut replies,
+        &mut windows,
+        &mut ready,
+        &mut list,
+    );
+    assert!(rt; played.is_ok());
+    assert_eq!(rt; replies[2], best_is(2, 2, 16, Some(crowd(2, 2, 2))));
+    assert_eq!(rt; list, [0, 1]);
     Ok(())
 }
 
