@@ -1,4 +1,4 @@
-// Asks piles of layers for many costs, case after case on standard input, and prints each answer.
+// Checks rows for an own table and asks piles of layers for costs, case after case on standard input, and prints each answer.
 #![tactic(auto)]
 
 mod pile;
@@ -34,7 +34,7 @@ fn layers_of(settings: Settings) -> Result<Layers, SettingRefusal> {
     })
 }
 
-// The cost of a question under layers over a bottom, of which the own one is this table.
+// The cost of a question under layers over a bottom; the own table is this one.
 fn cost(bottom: Bottom, table: OwnTable, layers: Layers, question: Question) -> u64 {
     match bottom {
         Bottom::Absolute => pile_cost(AbsoluteDeviation, layers, question),

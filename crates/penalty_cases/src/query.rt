@@ -7,7 +7,7 @@ use penalty::Question;
 /// What is asked.
 #[derive(Clone, Copy)]
 pub enum Query<'a> {
-    /// Rows, four bytes a number, which stand for all cases up to the next rows.
+    /// Rows, four bytes a number, in force for all cases up to the next rows.
     Rows {
         ahead: &'a [u8],
         behind: &'a [u8],
