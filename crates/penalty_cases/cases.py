@@ -5,8 +5,8 @@ The answers come from the rules as docs/RULES.md states them (tools/rules.py), i
 the largest v with v * v <= 1000 * s is looked for upwards from 0. Nothing here is shared with the
 Rattle code. The first byte of a case says what it is. 3: the rows of an own table, in force until the next rows, with how many
 numbers the row ahead and the row behind have (2 bytes each), and these (4 each). 0 (absolute deviation), 1 (two-sided) or 2 (own
-table): a cost, with a channel and its weight (1 and 2), the tolerance and the limit (4 each), and the question: slots (2), channel
-(1), readings, count and slot (2 each). Numbers have the high byte first.
+table), and any other byte as 0: a cost, with a channel and its weight (1 and 2), the tolerance and the limit (4 each), and the
+question: slots (2), channel (1), readings, count and slot (2 each). Numbers have the high byte first.
 """
 
 import random
@@ -44,7 +44,7 @@ def answer(rows, bottom, weight_channel, weight, tolerance, limit, S, c, d, x, k
         return "REFUSED 9"
     if tolerance > LARGEST or limit > LARGEST:
         return "REFUSED 10"
-    cost = own_cost(rows, S, c, d, x, k) if bottom == OWN else bottom_cost(bottom, S, c, d, x, k)
+    cost = own_cost(rows, S, c, d, x, k) if bottom == OWN else bottom_cost(bottom == 1, S, c, d, x, k)
     cost = weigh(weight if c == weight_channel else 1, cost)
     cost = relax(tolerance, cost)
     return str(stop(limit, S, d, x, k, cost))
@@ -182,6 +182,14 @@ def wrong_rows():
                 yield (ahead, behind), [(OWN, 0, 1, 0, LARGEST, 2, 0, 1, x, k) for x, k in [(1, 0), (0, 2), (2, 0)]]
 
 
+def other_first_bytes():
+    """Cases whose first byte names no bottom, with the costs of the absolute deviation that docs/RULES.md works out."""
+    questions = [(k, x) for k in range(3) for x in range(2)]
+    for first in (4, 255):
+        for (k, x), cost in zip(questions, [0, 2, 1, 1, 2, 0], strict=True):
+            yield (first, 0, 1, 0, LARGEST, 2, 0, 1, x, k), str(cost)
+
+
 def bytes_of(case):
     """The bytes of a case."""
     widths = (1, 1, 2, 4, 4, 2, 1, 2, 2, 2)
@@ -219,6 +227,7 @@ def groups():
     yield rows, [((OWN, *case[1:]), answer(None, *case)) for case in two_sided]
     for rows, cases in [*tables_at_random(), *wrong_rows()]:
         yield rows, [(case, None) for case in cases]
+    yield ([s * s for s in range(256)], [0] * 5 + [500] * 251), list(other_first_bytes())
 
 
 def main():

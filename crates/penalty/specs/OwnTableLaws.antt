@@ -3,7 +3,7 @@ use Rattle.std.specs.Prelude.{ℕ, List, slice_index}
 use Rattle.std.proofs.Common.{arith}
 use Rattle.penalty.specs.Cost.{Capped, Valley}
 use Rattle.penalty.specs.OwnTable.{IsRow, owned}
-use Rattle.penalty.specs.Scales.{IsScale, scaled_capped, scaled_valley}
+use Rattle.penalty.specs.Scales.{IsScale, scale_most, scaled_capped, scaled_valley}
 
 -- a row is a scale
 row_scale : {row : List ℕ} → IsRow row → IsScale (slice_index row)
@@ -15,7 +15,7 @@ row_scale {row} is = record {
 module _ {ahead behind : List ℕ} (a : IsRow ahead) (b : IsRow behind) where
   -- no cost of an own table is above the forbidden one
   pub owned_capped : Capped (owned ahead behind)
-  owned_capped = scaled_capped (row_scale b) (row_scale a)
+  owned_capped = scaled_capped (slice_index behind) (slice_index ahead) (scale_most (row_scale b)) (scale_most (row_scale a))
 
   -- an own table keeps the valley law
   pub owned_valley : Valley (owned ahead behind)

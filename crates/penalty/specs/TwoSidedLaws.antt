@@ -1,7 +1,7 @@
 -- The laws of the two-sided bottom, from those of its two scales.
 use Rattle.std.proofs.Common.{mul-le-mul_left, arith}
 use Rattle.penalty.specs.Cost.{Capped, Valley}
-use Rattle.penalty.specs.Scales.{IsScale, scaled_capped, scaled_valley}
+use Rattle.penalty.specs.Scales.{IsScale, scale_most, scaled_capped, scaled_valley}
 use Rattle.penalty.specs.Squares.{root_rising, root_small}
 use Rattle.penalty.specs.TwoSided.{forty, root, two_sided}
 
@@ -15,7 +15,7 @@ root_scale = record { rising = λ s t h _. root_rising s t h; last = let r = roo
 
 -- no cost of the two-sided bottom is above the forbidden one
 pub two_sided_capped : Capped two_sided
-two_sided_capped = scaled_capped forty_scale root_scale
+two_sided_capped = scaled_capped forty root (scale_most forty_scale) (scale_most root_scale)
 
 -- the two-sided bottom keeps the valley law
 pub two_sided_valley : Valley two_sided

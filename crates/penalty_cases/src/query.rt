@@ -28,12 +28,13 @@ pub enum Bottom {
     OwnTable,
 }
 
+// What is neither 1 nor 2 is the absolute deviation.
 impl From<u8> for Bottom {
     fn from(code: u8) -> Bottom {
         match code {
-            0 => Bottom::Absolute,
             1 => Bottom::TwoSided,
-            _ => Bottom::OwnTable,
+            2 => Bottom::OwnTable,
+            _ => Bottom::Absolute,
         }
     }
 }

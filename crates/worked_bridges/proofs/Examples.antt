@@ -10,6 +10,7 @@ use Rattle.penalty.specs.Layers.{banded, stopped, weighted}
 use Rattle.penalty.specs.Maps.{map_capped, map_valley, relax_map, stop_capped, stop_valley, weight_maps}
 use Rattle.penalty.specs.TwoSided.{largest, root, two_sided}
 use Rattle.penalty.specs.TwoSidedLaws.{two_sided_capped, two_sided_valley}
+use Rattle.windows.proofs.Arranged.{open_arranged}
 use Rattle.worked_bridges.specs.Bridges.{Plain, TwoSided, UnderLayers, WorkedBridges, crowd, in_slot_two, in_turn, moment, one, reading, row, three, twice, two, uneven}
 use Rattle.worked_bridges.proofs.Answering.{finds, finds_none, finds_least, finds_no_least}
 use Rattle.worked_bridges.proofs.Slots.{crowded_is}
@@ -36,6 +37,7 @@ plain = record {
       (Some (moment 1 0)) (omega arith) refl 1 0 refl
       (omega arith, first_blocked absolute twice 0 1 0 refl);
   three_windows = open_windows absolute three 1 in_slot_two refl;
+  three_arranged = open_arranged absolute three 1 (omega arith) refl in_slot_two (open_windows absolute three 1 in_slot_two refl);
   two_two = crowded_is in_slot_two 2 2 3 refl;
   one_two = crowded_is in_slot_two 1 2 3 refl;
   two_three = crowded_is in_slot_two 2 3 3 refl;

@@ -1,6 +1,7 @@
 -- Worked bridges. A bridge is written by the readings of its channels 0, 1 and so on.
 use Rattle.std.specs.Prelude.{ℕ, ◌-◌, List, [], ◌∷◌, ◌++◌, length, replicate, Some, None}
 use Rattle.matching.specs.Matchings.{Assignment, IsCrowded, Placement}
+use Rattle.matching.specs.Windows.{Arranged}
 use Rattle.matching.specs.declared.window.Window.{Window}
 use Rattle.penalty.specs.Absolute.{absolute}
 use Rattle.penalty.specs.Layers.{banded, stopped, weighted}
@@ -70,6 +71,8 @@ pub record Plain : Type 0 where
   pub twice_best : FindsLeast absolute twice 1 (reading 0 1 1 1 1 ∷ reading 0 2 3 3 3 ∷ reading 1 1 2 2 2 ∷ []) (0 ∷ 1 ∷ 0 ∷ []) (Some (moment 1 0))
   -- (1,1,1): at 1 the three windows are 2 to 2
   pub three_windows : AreOpen absolute three 1 in_slot_two
+  -- as the matching takes them
+  pub three_arranged : Arranged in_slot_two
   -- the slots 2 to 2, 1 to 2 and 2 to 3 are crowded, with three windows inside each; 1 to 3 are not
   pub two_two : IsCrowded in_slot_two 2 2 3
   pub one_two : IsCrowded in_slot_two 1 2 3
