@@ -1,6 +1,7 @@
 -- The worked bridges, each by the tests that its answer passes.
-use Rattle.std.proofs.Common.{ℕ, List, [], ◌∷◌, None, Some, rules, refl, ⊎_elim, arith}
+use Rattle.std.proofs.Common.{ℕ, zero, suc, ◌+◌, ◌<◌, List, [], ◌∷◌, None, Some, rules, refl, ⊎_elim, arith}
 use Rattle.matching.proofs.Crowds.{crowd_rules_out}
+use Rattle.matching.specs.Windows.{Follows, Usable, window}
 use Rattle.matching.specs.declared.window.Window.{Window}
 use Rattle.penalty.specs.Absolute.{absolute}
 use Rattle.penalty.specs.Bottoms.{bottom_valley, size_valley}
@@ -10,7 +11,6 @@ use Rattle.penalty.specs.Layers.{banded, stopped, weighted}
 use Rattle.penalty.specs.Maps.{map_capped, map_valley, relax_map, stop_capped, stop_valley, weight_maps}
 use Rattle.penalty.specs.TwoSided.{largest, root, two_sided}
 use Rattle.penalty.specs.TwoSidedLaws.{two_sided_capped, two_sided_valley}
-use Rattle.windows.proofs.Arranged.{open_arranged}
 use Rattle.worked_bridges.specs.Bridges.{Plain, TwoSided, UnderLayers, WorkedBridges, crowd, in_slot_two, in_turn, moment, one, reading, row, three, twice, two, uneven}
 use Rattle.worked_bridges.proofs.Answering.{finds, finds_none, finds_least, finds_no_least}
 use Rattle.worked_bridges.proofs.Slots.{crowded_is}
@@ -23,6 +23,19 @@ absolute_capped S c d x k = search rules
 -- and it keeps the valley law
 absolute_valley : Valley absolute
 absolute_valley = bottom_valley size absolute_capped size_valley
+
+-- each of the readings of (1,1,1), which may all stand in slot 2 alone, is usable in three slots
+three_usable : (i : ℕ) → i < 3 → Usable 3 (window in_slot_two i)
+three_usable zero h = record { channel = omega arith; first = omega arith; opens = omega arith; last = omega arith }
+three_usable (suc zero) h = record { channel = omega arith; first = omega arith; opens = omega arith; last = omega arith }
+three_usable (suc (suc zero)) h = record { channel = omega arith; first = omega arith; opens = omega arith; last = omega arith }
+three_usable (suc (suc (suc i))) h = absurd (omega (arith, h))
+
+-- and each is of a greater channel than the one before it
+three_follow : (i : ℕ) → i + 1 < 3 → Follows (window in_slot_two i) (window in_slot_two (i + 1))
+three_follow zero h = record { channel = omega arith; reading = λ same. absurd (omega (arith, same)); earliest = λ _. omega arith; latest = λ _. omega arith }
+three_follow (suc zero) h = record { channel = omega arith; reading = λ same. absurd (omega (arith, same)); earliest = λ _. omega arith; latest = λ _. omega arith }
+three_follow (suc (suc i)) h = absurd (omega (arith, h))
 
 -- the facts of the bridges under the absolute deviation alone
 plain : Plain
@@ -37,7 +50,7 @@ plain = record {
       (Some (moment 1 0)) (omega arith) refl 1 0 refl
       (omega arith, first_blocked absolute twice 0 1 0 refl);
   three_windows = open_windows absolute three 1 in_slot_two refl;
-  three_arranged = open_arranged absolute three 1 (omega arith) refl in_slot_two (open_windows absolute three 1 in_slot_two refl);
+  three_arranged = record { few = omega arith; usable = three_usable; follows = three_follow };
   two_two = crowded_is in_slot_two 2 2 3 refl;
   one_two = crowded_is in_slot_two 1 2 3 refl;
   two_three = crowded_is in_slot_two 2 3 3 refl;
